@@ -1,0 +1,4 @@
+//! The commands of `sledge`: words in, a report and an exit status out.
+#![tactic(auto)]
+
+mod ground;
