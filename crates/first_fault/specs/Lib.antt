@@ -1,0 +1,4 @@
+pub mod Levels
+pub mod Answers
+pub mod Walk
+pub mod Fails
