@@ -11,16 +11,16 @@ pub loop-n-preserved : goal.loop-n-preserved
 loop-n-preserved c =
     good_derives c.args.inputs.now c.offer.new.kept c.in_ok-offer.field-0
     (input_good _ _ _ c.loop-n.n c.index-inputs-n.result c.in_ok-literals.literals _ c.loop-n.invariant c.loop-n-test.true c.index-inputs-n.is
-      (subst (λ ls. AllIn ls c.in_ok-literals.literals) c.as_slice.ensures c.in_ok-literals.ensures) c.in_ok-offer.ensures)
+    (subst (λ ls. AllIn ls c.in_ok-literals.literals) c.as_slice.ensures c.in_ok-literals.ensures) c.in_ok-offer.ensures)
 
 pub returns-in-Empty : goal.returns-in-Empty
 returns-in-Empty c =
     subst (IsGood c.args.inputs.now c.offer.new.kept) c.in-Empty.is
     (input_good _ _ _ c.loop-n.n c.index-inputs-n.result c.in_ok-literals.literals _ c.loop-n.invariant c.loop-n-test.true c.index-inputs-n.is
-      (subst (λ ls. AllIn ls c.in_ok-literals.literals) c.as_slice.ensures c.in_ok-literals.ensures) c.in_ok-offer.ensures)
+    (subst (λ ls. AllIn ls c.in_ok-literals.literals) c.as_slice.ensures c.in_ok-literals.ensures) c.in_ok-offer.ensures)
 
 pub returns-in-Full : goal.returns-in-Full
 returns-in-Full c =
     subst (IsGood c.args.inputs.now c.offer.new.kept) c.in-Full.is
     (input_good _ _ _ c.loop-n.n c.index-inputs-n.result c.in_ok-literals.literals _ c.loop-n.invariant c.loop-n-test.true c.index-inputs-n.is
-      (subst (λ ls. AllIn ls c.in_ok-literals.literals) c.as_slice.ensures c.in_ok-literals.ensures) c.in_ok-offer.ensures)
+    (subst (λ ls. AllIn ls c.in_ok-literals.literals) c.as_slice.ensures c.in_ok-literals.ensures) c.in_ok-offer.ensures)
