@@ -1,0 +1,11 @@
+pub mod Both
+pub mod Equations
+pub mod TyCases
+pub mod TermCases
+pub mod Gets
+pub mod Closed
+pub mod Preserves
+pub mod Substitutes
+pub mod Abstracts
+pub mod Replaces
+pub mod Formulas

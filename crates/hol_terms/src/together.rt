@@ -1,0 +1,37 @@
+ghost use Rattle.std.specs.Prelude.{◌≡◌, IfOk};
+ghost use Rattle.std.specs.List.{list_all};
+ghost use Rattle.hol_terms.specs.Formulas.{is_sentence as sentence_test};
+ghost use Rattle.hol_terms.specs.Envs.{PutTogether};
+
+use crate::formula::is_sentence;
+use crate::{Env, Sig, Term, TypeFault};
+use std::alloc::Global;
+use text_kit::{NoMemory, Rows};
+
+/// Whether each term is a sentence over the signature.
+pub fn are_sentences(alloc: Global, sig: &Sig, terms: &[Term]) -> Result<bool, NoMemory>
+    ensures { IfOk result (λ b. b ≡ list_all (sentence_test sig.now) terms.now) }
+{
+    for t in terms {
+        if !is_sentence(alloc, sig, t)? {
+            return Ok(false);
+        }
+    }
+    Ok(true)
+}
+
+/// Puts signature, facts and goal together, where each fact and the goal is a sentence.
+pub fn put_together(
+    alloc: Global,
+    sig: Sig,
+    facts: Rows<Term>,
+    goal: Term,
+) -> Result<Env, TypeFault>
+    ensures { PutTogether sig facts goal result }
+{
+    if are_sentences(alloc, &sig, facts.as_slice())? && is_sentence(alloc, &sig, &goal)? {
+        Ok(Env { sig, facts, goal })
+    } else {
+        Err(TypeFault::IllTyped)
+    }
+}
