@@ -1,3 +1,4 @@
 pub mod Ground
 pub mod Searches
 pub mod Words
+pub mod Texts

@@ -2,4 +2,5 @@
 #![tactic(auto)]
 
 mod ground;
+mod texts;
 mod words;

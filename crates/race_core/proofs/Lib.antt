@@ -1,0 +1,9 @@
+pub mod Slots
+pub mod Mapped
+pub mod Runs
+pub mod Stepped
+pub mod Ids
+pub mod Invariant
+pub mod Moved
+pub mod Legal
+pub mod Passages
