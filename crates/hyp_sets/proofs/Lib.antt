@@ -1,0 +1,6 @@
+pub mod OrderLaws
+pub mod SetLaws
+pub mod Members
+pub mod Images
+pub mod Kept
+pub mod Answered
