@@ -1,0 +1,6 @@
+pub mod Weight
+pub mod Substitution
+pub mod Same
+pub mod Normal
+pub mod Gathered
+pub mod NormalLaws
