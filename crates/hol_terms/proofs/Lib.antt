@@ -9,3 +9,4 @@ pub mod Substitutes
 pub mod Abstracts
 pub mod Replaces
 pub mod Formulas
+pub mod TypedParts

@@ -20,7 +20,7 @@ pub fn are_sentences(alloc: Global, sig: &Sig, terms: &[Term]) -> Result<bool, N
     Ok(true)
 }
 
-/// Puts signature, facts and goal together, where each fact and the goal is a sentence.
+/// Puts signature, facts and goal together, where the signature has bool and each fact and the goal is a sentence.
 pub fn put_together(
     alloc: Global,
     sig: Sig,
@@ -29,7 +29,10 @@ pub fn put_together(
 ) -> Result<Env, TypeFault>
     ensures { PutTogether sig facts goal result }
 {
-    if are_sentences(alloc, &sig, facts.as_slice())? && is_sentence(alloc, &sig, &goal)? {
+    let fits = sig.types > 0
+        && are_sentences(alloc, &sig, facts.as_slice())?
+        && is_sentence(alloc, &sig, &goal)?;
+    if fits {
         Ok(Env { sig, facts, goal })
     } else {
         Err(TypeFault::IllTyped)

@@ -1,0 +1,4 @@
+pub mod Shorter
+pub mod Rings
+pub mod Counts
+pub mod Turns

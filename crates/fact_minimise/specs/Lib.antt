@@ -1,0 +1,4 @@
+pub mod Sublists
+pub mod Minimal
+pub mod Progress
+pub mod Stages
