@@ -1,3 +1,0 @@
-mod Places
-mod Clauses
-mod Derivations

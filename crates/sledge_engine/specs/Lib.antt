@@ -1,4 +1,0 @@
-pub mod Ground
-pub mod Searches
-pub mod Words
-pub mod Texts
