@@ -1,0 +1,11 @@
+pub mod Complete
+pub mod CompleteText
+pub mod Pieces
+pub mod TypePieces
+pub mod TermPieces
+pub mod DeepPieces
+pub mod TextPieces
+pub mod HypPieces
+pub mod ItemPieces
+pub mod Places
+pub mod Exists
