@@ -1,0 +1,6 @@
+use Rattle.std.proofs.Common.{sym, subst}
+use Rattle.kernel_rules.proofs.LooseIndexes.{Closed, left_closed}
+use Rattle.kernel_rules.proofs.equality.functions_half.Goals as goal
+
+pub lambda_over-requires : goal.lambda_over-requires
+lambda_over-requires c = subst Closed (sym c.left.ensures) (left_closed c.args.e.now c.requires)

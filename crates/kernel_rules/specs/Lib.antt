@@ -1,0 +1,4 @@
+pub mod Connectives
+pub mod Rules
+pub mod Derivations
+pub mod Formulas
