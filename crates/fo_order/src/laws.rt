@@ -5,5 +5,4 @@ ghost use Rattle.fo_terms.specs.declared.term.FoTerm.{FoTerm};
 pub fn order_is_strict()
     ensures irreflexive { (s : FoTerm) → Above s s → ⊥ }
     ensures transitive { (s t u : FoTerm) → Above s t → Above t u → Above s u }
-{
-}
+{}

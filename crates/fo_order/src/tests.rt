@@ -35,12 +35,47 @@ fn orders(rt: HostRuntime) -> Result<(), Fail> {
     let alloc = rt.alloc();
     let greater = (Order::Greater, Order::Less);
     let unknown = (Order::Unknown, Order::Unknown);
-    assert_eq!(rt; compared(one(alloc, 1, var(0))?, var(0)), greater, "heavier");
-    assert_eq!(rt; compared(one(alloc, 2, var(0))?, one(alloc, 1, var(0))?), greater, "later head");
-    assert_eq!(rt; compared(two(alloc, 1, var(0), constant(alloc, 3))?, two(alloc, 1, var(0), constant(alloc, 2))?), greater, "second argument");
-    assert_eq!(rt; compared(two(alloc, 2, var(0), var(0))?, two(alloc, 1, var(0), var(1))?), unknown, "counts of variables");
-    assert_eq!(rt; compared(two(alloc, 1, var(0), var(1))?, two(alloc, 1, var(1), var(0))?), unknown, "variables");
-    assert_eq!(rt; kbo(&two(alloc, 1, var(0), var(1))?, &two(alloc, 1, var(0), var(1))?), Order::Equal);
+    assert_eq!(rt;
+        compared(one(alloc, 1, var(0))?, var(0)),
+        greater,
+        "heavier"
+    );
+    assert_eq!(rt;
+        compared(one(alloc, 2, var(0))?, one(alloc, 1, var(0))?),
+        greater,
+        "later head"
+    );
+    assert_eq!(rt;
+        compared(
+            two(alloc, 1, var(0), constant(alloc, 3))?,
+            two(alloc, 1, var(0), constant(alloc, 2))?
+        ),
+        greater,
+        "second argument"
+    );
+    assert_eq!(rt;
+        compared(
+            two(alloc, 2, var(0), var(0))?,
+            two(alloc, 1, var(0), var(1))?
+        ),
+        unknown,
+        "counts of variables"
+    );
+    assert_eq!(rt;
+        compared(
+            two(alloc, 1, var(0), var(1))?,
+            two(alloc, 1, var(1), var(0))?
+        ),
+        unknown,
+        "variables"
+    );
+    assert_eq!(rt;
+        kbo(
+            &two(alloc, 1, var(0), var(1))?,
+            &two(alloc, 1, var(0), var(1))?
+        ),
+        Order::Equal
+    );
     Ok(())
 }
 
@@ -48,11 +83,23 @@ fn orders(rt: HostRuntime) -> Result<(), Fail> {
 fn chooses_literals(rt: HostRuntime) -> Result<(), Fail> {
     let alloc = rt.alloc();
     let mut literals = Rows::begin(alloc);
-    literals.push(Literal { positive: true, atom: Atom::Eq(constant(alloc, 1), constant(alloc, 2)) })?;
-    literals.push(Literal { positive: false, atom: Atom::Holds(constant(alloc, 3)) })?;
-    literals.push(Literal { positive: true, atom: Atom::Eq(constant(alloc, 1), constant(alloc, 4)) })?;
+    literals.push(Literal {
+        positive: true,
+        atom: Atom::Eq(constant(alloc, 1), constant(alloc, 2)),
+    })?;
+    literals.push(Literal {
+        positive: false,
+        atom: Atom::Holds(constant(alloc, 3)),
+    })?;
+    literals.push(Literal {
+        positive: true,
+        atom: Atom::Eq(constant(alloc, 1), constant(alloc, 4)),
+    })?;
     let c = Clause { literals };
     assert_eq!(rt; c.literals.len(), 3);
-    assert_eq!(rt; (eligible(&c, 0), eligible(&c, 1), eligible(&c, 2)), (false, false, true));
+    assert_eq!(rt;
+        (eligible(&c, 0), eligible(&c, 1), eligible(&c, 2)),
+        (false, false, true)
+    );
     Ok(())
 }

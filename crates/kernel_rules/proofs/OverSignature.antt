@@ -106,8 +106,8 @@ module _ (sig : Sig) (has_bool : 0 < sig.types) where
   or_elim_over p q s r op oq os h =
       so (is_disj p.concl && is_same q.concl s.concl) (seq (set.union (set.union p.hyps (set.remove q.hyps (left_of p.concl))) (set.remove s.hyps (right_of p.concl))) q.concl) r
       (λ b. over _ _ oq.concl
-          (each_union (set.union p.hyps (set.remove q.hyps (left_of p.concl))) (set.remove s.hyps (right_of p.concl))
-              (each_union p.hyps (set.remove q.hyps (left_of p.concl)) op.hyps (each_remove q.hyps (left_of p.concl) oq.hyps)) (each_remove s.hyps (right_of p.concl) os.hyps))) h
+      (each_union (set.union p.hyps (set.remove q.hyps (left_of p.concl))) (set.remove s.hyps (right_of p.concl))
+      (each_union p.hyps (set.remove q.hyps (left_of p.concl)) op.hyps (each_remove q.hyps (left_of p.concl) oq.hyps)) (each_remove s.hyps (right_of p.concl) os.hyps))) h
 
   not_intro_over : (t : Term) (p r : Sequent) → IsOver sig p → not_intro_of sig t p ≡ Some r → IsOver sig r
   not_intro_over t p r op h =
@@ -125,34 +125,34 @@ module _ (sig : Sig) (has_bool : 0 < sig.types) where
   all_intro_over n a p r op h =
       so (ty_fits sig.types a && absent n a p.hyps) (seq p.hyps (all a (lambda_over n a p.concl))) r
       (λ b. let fits = (both_true (ty_fits sig.types a) (absent n a p.hyps) b).0 in
-          over _ _
-          (all_formula sig a (lambda_over n a p.concl) fits (lambda_over_typed sig n a bool_ty p.concl fits (formula_typed sig p.concl op.concl))
-              (lambda_over_aux_free sig n a p.concl (formula_aux_free sig p.concl op.concl))) op.hyps) h
+      over _ _
+      (all_formula sig a (lambda_over n a p.concl) fits (lambda_over_typed sig n a bool_ty p.concl fits (formula_typed sig p.concl op.concl))
+      (lambda_over_aux_free sig n a p.concl (formula_aux_free sig p.concl op.concl))) op.hyps) h
 
   all_elim_over : (t : Term) (p r : Sequent) → IsOver sig p → all_elim_of sig t p ≡ Some r → IsOver sig r
   all_elim_over t p r op h =
       so (is_all p.concl && is_given sig t (head_ty p.concl)) (seq p.hyps (applied_to (right_of p.concl) t)) r
       (λ b. let both = both_true (is_all p.concl) (is_given sig t (head_ty p.concl)) b in
-          let of = all_property sig (head_ty p.concl) (right_of p.concl) (subst (IsFormula sig) (all_is p.concl both.0) op.concl) in
-          over _ _
-          (applied_formula sig (right_of p.concl) t (head_ty p.concl) of.1.0 (given_typed sig t (head_ty p.concl) both.1) of.1.1 (given_aux_free sig t (head_ty p.concl) both.1)) op.hyps) h
+      let of = all_property sig (head_ty p.concl) (right_of p.concl) (subst (IsFormula sig) (all_is p.concl both.0) op.concl) in
+      over _ _
+      (applied_formula sig (right_of p.concl) t (head_ty p.concl) of.1.0 (given_typed sig t (head_ty p.concl) both.1) of.1.1 (given_aux_free sig t (head_ty p.concl) both.1)) op.hyps) h
 
   ex_intro_over : (f t : Term) (p r : Sequent) → IsOver sig p → ex_intro_of sig f t p ≡ Some r → IsOver sig r
   ex_intro_over f t p r op h =
       typed (type_of_term sig t) (λ a. when ((is_given sig f (function_ty a bool_ty) && aux_free t) && is_same p.concl (applied_to f t)) (seq p.hyps (some a f))) r
       (λ a is k.
-          so ((is_given sig f (function_ty a bool_ty) && aux_free t) && is_same p.concl (applied_to f t)) (seq p.hyps (some a f)) r
-          (λ b. let outer = both_true (is_given sig f (function_ty a bool_ty) && aux_free t) (is_same p.concl (applied_to f t)) b in
-              let inner = both_true (is_given sig f (function_ty a bool_ty)) (aux_free t) outer.0 in
-              over _ _ (some_formula sig a f (own_type_fits sig has_bool t a is) (given_typed sig f (function_ty a bool_ty) inner.0) (given_aux_free sig f (function_ty a bool_ty) inner.0)) op.hyps) k) h
+      so ((is_given sig f (function_ty a bool_ty) && aux_free t) && is_same p.concl (applied_to f t)) (seq p.hyps (some a f)) r
+      (λ b. let outer = both_true (is_given sig f (function_ty a bool_ty) && aux_free t) (is_same p.concl (applied_to f t)) b in
+      let inner = both_true (is_given sig f (function_ty a bool_ty)) (aux_free t) outer.0 in
+      over _ _ (some_formula sig a f (own_type_fits sig has_bool t a is) (given_typed sig f (function_ty a bool_ty) inner.0) (given_aux_free sig f (function_ty a bool_ty) inner.0)) op.hyps) k) h
 
   choose_over : (p r : Sequent) → IsOver sig p → choose_of p ≡ Some r → IsOver sig r
   choose_over p r op h =
       so (is_some_of p.concl) (seq p.hyps (applied_to (right_of p.concl) (chosen (head_ty p.concl) (right_of p.concl)))) r
       (λ b. let of = some_property sig (head_ty p.concl) (right_of p.concl) (subst (IsFormula sig) (some_is p.concl b) op.concl) in
-          over _ _
-          (applied_formula sig (right_of p.concl) (chosen (head_ty p.concl) (right_of p.concl)) (head_ty p.concl) of.1.0 (chosen_typed sig (head_ty p.concl) (right_of p.concl) of.0 of.1.0) of.1.1
-              (chosen_aux_free sig (head_ty p.concl) (right_of p.concl) of.1.1)) op.hyps) h
+      over _ _
+      (applied_formula sig (right_of p.concl) (chosen (head_ty p.concl) (right_of p.concl)) (head_ty p.concl) of.1.0 (chosen_typed sig (head_ty p.concl) (right_of p.concl) of.0 of.1.0) of.1.1
+      (chosen_aux_free sig (head_ty p.concl) (right_of p.concl) of.1.1)) op.hyps) h
 
   refl_over : (t : Term) (r : Sequent) → refl_of sig t ≡ Some r → IsOver sig r
   refl_over t r h =
@@ -164,12 +164,12 @@ module _ (sig : Sig) (has_bool : 0 < sig.types) where
       so ((is_equal p.concl && is_given sig f (function_ty (head_ty p.concl) bool_ty)) && is_same q.concl (applied_to f (left_of p.concl)))
       (seq (set.union p.hyps q.hyps) (applied_to f (right_of p.concl))) r
       (λ b. let outer = both_true (is_equal p.concl && is_given sig f (function_ty (head_ty p.concl) bool_ty)) (is_same q.concl (applied_to f (left_of p.concl))) b in
-          let inner = both_true (is_equal p.concl) (is_given sig f (function_ty (head_ty p.concl) bool_ty)) outer.0 in
-          let whole = subst (IsFormula sig) (equal_is p.concl inner.0) op.concl in
-          let sides = equal_sides sig (head_ty p.concl) (left_of p.concl) (right_of p.concl) whole in
-          over _ _
-          (applied_formula sig f (right_of p.concl) (head_ty p.concl) (given_typed sig f (function_ty (head_ty p.concl) bool_ty) inner.1) sides.1.1 (given_aux_free sig f (function_ty (head_ty p.concl) bool_ty) inner.1)
-              (equal_aux_free sig (head_ty p.concl) (left_of p.concl) (right_of p.concl) whole).1) (each_union p.hyps q.hyps op.hyps oq.hyps)) h
+      let inner = both_true (is_equal p.concl) (is_given sig f (function_ty (head_ty p.concl) bool_ty)) outer.0 in
+      let whole = subst (IsFormula sig) (equal_is p.concl inner.0) op.concl in
+      let sides = equal_sides sig (head_ty p.concl) (left_of p.concl) (right_of p.concl) whole in
+      over _ _
+      (applied_formula sig f (right_of p.concl) (head_ty p.concl) (given_typed sig f (function_ty (head_ty p.concl) bool_ty) inner.1) sides.1.1 (given_aux_free sig f (function_ty (head_ty p.concl) bool_ty) inner.1)
+      (equal_aux_free sig (head_ty p.concl) (left_of p.concl) (right_of p.concl) whole).1) (each_union p.hyps q.hyps op.hyps oq.hyps)) h
 
   contracted_typed : (t : Term) (a : Ty) → is_redex t ≡ true → type_of_term sig t ≡ Some a → type_of_term sig (contracted t) ≡ Some a
   contracted_typed t a h is =
@@ -187,35 +187,35 @@ module _ (sig : Sig) (has_bool : 0 < sig.types) where
   beta_over t r h =
       typed (type_of_term sig t) (λ a. when (aux_free t && is_redex t) (seq set.empty (equal a t (contracted t)))) r
       (λ a is k.
-          so (aux_free t && is_redex t) (seq set.empty (equal a t (contracted t))) r
-          (λ b. let both = both_true (aux_free t) (is_redex t) b in
-              over _ _ (equal_formula sig a t (contracted t) (own_type_fits sig has_bool t a is) is (contracted_typed t a both.1 is) both.0 (contracted_aux_free t both.1 both.0)) each_none) k) h
+      so (aux_free t && is_redex t) (seq set.empty (equal a t (contracted t))) r
+      (λ b. let both = both_true (aux_free t) (is_redex t) b in
+      over _ _ (equal_formula sig a t (contracted t) (own_type_fits sig has_bool t a is) is (contracted_typed t a both.1 is) both.0 (contracted_aux_free t both.1 both.0)) each_none) k) h
 
   abs_over : (n : ℕ) (a : Ty) (p r : Sequent) → IsOver sig p → abs_of sig n a p ≡ Some r → IsOver sig r
   abs_over n a p r op h =
       so ((is_equal p.concl && ty_fits sig.types a) && absent n a p.hyps)
       (seq p.hyps (equal (function_ty a (head_ty p.concl)) (lambda_over n a (left_of p.concl)) (lambda_over n a (right_of p.concl)))) r
       (λ b. let outer = both_true (is_equal p.concl && ty_fits sig.types a) (absent n a p.hyps) b in
-          let inner = both_true (is_equal p.concl) (ty_fits sig.types a) outer.0 in
-          let whole = subst (IsFormula sig) (equal_is p.concl inner.0) op.concl in
-          let sides = equal_sides sig (head_ty p.concl) (left_of p.concl) (right_of p.concl) whole in
-          let clean = equal_aux_free sig (head_ty p.concl) (left_of p.concl) (right_of p.concl) whole in
-          let one = lambda_over_typed sig n a (head_ty p.concl) (left_of p.concl) inner.1 sides.1.0 in
-          let other = lambda_over_typed sig n a (head_ty p.concl) (right_of p.concl) inner.1 sides.1.1 in
-          over _ _
-          (equal_formula sig (function_ty a (head_ty p.concl)) (lambda_over n a (left_of p.concl)) (lambda_over n a (right_of p.concl)) (own_type_fits sig has_bool (lambda_over n a (left_of p.concl)) (function_ty a (head_ty p.concl)) one) one
-              other (lambda_over_aux_free sig n a (left_of p.concl) clean.0) (lambda_over_aux_free sig n a (right_of p.concl) clean.1)) op.hyps) h
+      let inner = both_true (is_equal p.concl) (ty_fits sig.types a) outer.0 in
+      let whole = subst (IsFormula sig) (equal_is p.concl inner.0) op.concl in
+      let sides = equal_sides sig (head_ty p.concl) (left_of p.concl) (right_of p.concl) whole in
+      let clean = equal_aux_free sig (head_ty p.concl) (left_of p.concl) (right_of p.concl) whole in
+      let one = lambda_over_typed sig n a (head_ty p.concl) (left_of p.concl) inner.1 sides.1.0 in
+      let other = lambda_over_typed sig n a (head_ty p.concl) (right_of p.concl) inner.1 sides.1.1 in
+      over _ _
+      (equal_formula sig (function_ty a (head_ty p.concl)) (lambda_over n a (left_of p.concl)) (lambda_over n a (right_of p.concl)) (own_type_fits sig has_bool (lambda_over n a (left_of p.concl)) (function_ty a (head_ty p.concl)) one) one
+      other (lambda_over_aux_free sig n a (left_of p.concl) clean.0) (lambda_over_aux_free sig n a (right_of p.concl) clean.1)) op.hyps) h
 
   iff_over : (p q r : Sequent) → IsOver sig p → IsOver sig q → iff_of p q ≡ Some r → IsOver sig r
   iff_over p q r op oq h =
       so (((is_imp p.concl && is_imp q.concl) && is_same (left_of p.concl) (right_of q.concl)) && is_same (right_of p.concl) (left_of q.concl))
       (seq (set.union p.hyps q.hyps) (equal bool_ty (left_of p.concl) (right_of p.concl))) r
       (λ b. let outer = both_true ((is_imp p.concl && is_imp q.concl) && is_same (left_of p.concl) (right_of q.concl)) (is_same (right_of p.concl) (left_of q.concl)) b in
-          let middle = both_true (is_imp p.concl && is_imp q.concl) (is_same (left_of p.concl) (right_of q.concl)) outer.0 in
-          let sides = imp_sides p.concl (both_true (is_imp p.concl) (is_imp q.concl) middle.0).0 op.concl in
-          over _ _
-          (equal_formula sig bool_ty (left_of p.concl) (right_of p.concl) (bool_fits sig has_bool) (formula_typed sig (left_of p.concl) sides.0) (formula_typed sig (right_of p.concl) sides.1)
-              (formula_aux_free sig (left_of p.concl) sides.0) (formula_aux_free sig (right_of p.concl) sides.1)) (each_union p.hyps q.hyps op.hyps oq.hyps)) h
+      let middle = both_true (is_imp p.concl && is_imp q.concl) (is_same (left_of p.concl) (right_of q.concl)) outer.0 in
+      let sides = imp_sides p.concl (both_true (is_imp p.concl) (is_imp q.concl) middle.0).0 op.concl in
+      over _ _
+      (equal_formula sig bool_ty (left_of p.concl) (right_of p.concl) (bool_fits sig has_bool) (formula_typed sig (left_of p.concl) sides.0) (formula_typed sig (right_of p.concl) sides.1)
+      (formula_aux_free sig (left_of p.concl) sides.0) (formula_aux_free sig (right_of p.concl) sides.1)) (each_union p.hyps q.hyps op.hyps oq.hyps)) h
 
   replaced_formula : (n : ℕ) (a : Ty) (t c : Term) → IsTrue (ty_fits sig.types a) → is_given sig t a ≡ true → IsFormula sig c → IsFormula sig (put_free (one_put n a t) c)
   replaced_formula n a t c fits own f =
@@ -226,8 +226,8 @@ module _ (sig : Sig) (has_bool : 0 < sig.types) where
   inst_over n a t p r op h =
       so (ty_fits sig.types a && is_given sig t a) (seq (image (put_free (one_put n a t)) p.hyps) (put_free (one_put n a t) p.concl)) r
       (λ b. let both = both_true (ty_fits sig.types a) (is_given sig t a) b in
-          over _ _ (replaced_formula n a t p.concl both.0 both.1 op.concl)
-          (λ y k. let from = holds_image (put_free (one_put n a t)) p.hyps y k in subst (IsFormula sig) from.1.1 (replaced_formula n a t from.0 both.0 both.1 (op.hyps from.0 from.1.0)))) h
+      over _ _ (replaced_formula n a t p.concl both.0 both.1 op.concl)
+      (λ y k. let from = holds_image (put_free (one_put n a t)) p.hyps y k in subst (IsFormula sig) from.1.1 (replaced_formula n a t from.0 both.0 both.1 (op.hyps from.0 from.1.0)))) h
 
   -- what is made of earlier sequents
   one_over : (o : Option Sequent) (f : Sequent → Option Sequent) (r : Sequent) → ((p : Sequent) → o ≡ Some p → IsOver sig p) → ((p : Sequent) → IsOver sig p → f p ≡ Some r → IsOver sig r) → from_one o f ≡ Some r → IsOver sig r

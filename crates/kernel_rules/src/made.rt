@@ -4,7 +4,10 @@ ghost use Rattle.kernel_rules.specs.Derivations.{sequent};
 ghost use Rattle.kernel_rules.specs.Formulas.{AreOver};
 
 use crate::equality::{abs, beta, iff, refl, subst};
-use crate::propositional::{and_intro, and_left, and_right, assume, classical, fact, imp_elim, imp_intro, not_elim, not_intro, or_elim, or_left, or_right, true_intro};
+use crate::propositional::{
+    and_intro, and_left, and_right, assume, classical, fact, imp_elim, imp_intro, not_elim,
+    not_intro, or_elim, or_left, or_right, true_intro,
+};
 use crate::quantifiers::{all_elim, all_intro, choose, ex_intro, inst};
 use crate::sequent::Sequent;
 use crate::step::{Step, ThmId};
@@ -20,7 +23,12 @@ fn at<'s>(earlier: &'s Rows<Sequent>, a: &ThmId) -> Option<&'s Sequent>
 
 /// The sequent that a step gives over the sequents before it, where it gives one.
 #[tactic(none)]
-pub fn sequent_of(alloc: Global, env: &Env, step: &Step, earlier: &Rows<Sequent>) -> Result<Option<Sequent>, NoMemory>
+pub fn sequent_of(
+    alloc: Global,
+    env: &Env,
+    step: &Step,
+    earlier: &Rows<Sequent>,
+) -> Result<Option<Sequent>, NoMemory>
     requires { AreOver env.now.sig earlier.now }
     ensures { IfOk result (λ o. o ≡ sequent env.now step.now earlier.now) }
 {

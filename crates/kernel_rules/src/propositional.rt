@@ -5,7 +5,9 @@ ghost use Rattle.kernel_rules.specs.Connectives.{left_of, neg, right_of};
 
 use crate::connectives::{conjunction, disjunction, implication, negation};
 use crate::sequent::Sequent;
-use crate::shapes::{is_conjunction, is_disjunction, is_falsum, is_implication, is_negation, left, right};
+use crate::shapes::{
+    is_conjunction, is_disjunction, is_falsum, is_implication, is_negation, left, right,
+};
 use hol_terms::{Konst, Sig, Term, copy, is_formula};
 use hyp_sets::{Hyps, tied};
 use std::alloc::Global;
@@ -16,7 +18,10 @@ pub fn fact(alloc: Global, t: &Term) -> Result<Option<Sequent>, NoMemory>
     ensures { IfOk result (λ o. o ≡ fact_of t.now) }
 {
     let hyps = Hyps::none(alloc)?;
-    Ok(Some(Sequent { hyps, concl: copy(t)? }))
+    Ok(Some(Sequent {
+        hyps,
+        concl: copy(t)?,
+    }))
 }
 
 /// `{t} : t`
@@ -27,11 +32,19 @@ pub fn assume(alloc: Global, sig: &Sig, t: &Term) -> Result<Option<Sequent>, NoM
         return Ok(None);
     }
     let hyps = Hyps::one(alloc, copy(t)?)?;
-    Ok(Some(Sequent { hyps, concl: copy(t)? }))
+    Ok(Some(Sequent {
+        hyps,
+        concl: copy(t)?,
+    }))
 }
 
 /// From `G : c` to `G - t : t ==> c`.
-pub fn imp_intro(alloc: Global, sig: &Sig, t: &Term, p: &Sequent) -> Result<Option<Sequent>, NoMemory>
+pub fn imp_intro(
+    alloc: Global,
+    sig: &Sig,
+    t: &Term,
+    p: &Sequent,
+) -> Result<Option<Sequent>, NoMemory>
     ensures { IfOk result (λ o. o ≡ imp_intro_of sig.now t.now p.now) }
 {
     if !is_formula(alloc, sig, t)? {
@@ -100,7 +113,12 @@ pub fn or_left(alloc: Global, sig: &Sig, t: &Term, p: &Sequent) -> Result<Option
 }
 
 /// From `G : b` to `G : t | b`.
-pub fn or_right(alloc: Global, sig: &Sig, t: &Term, p: &Sequent) -> Result<Option<Sequent>, NoMemory>
+pub fn or_right(
+    alloc: Global,
+    sig: &Sig,
+    t: &Term,
+    p: &Sequent,
+) -> Result<Option<Sequent>, NoMemory>
     ensures { IfOk result (λ o. o ≡ or_right_of sig.now t.now p.now) }
 {
     if !is_formula(alloc, sig, t)? {
@@ -122,7 +140,12 @@ fn joined(alloc: Global, p: &Sequent, l: &Sequent, r: &Sequent) -> Result<Hyps, 
 }
 
 /// From `G : a | b`, `D : c` and `E : c` to `G + (D - a) + (E - b) : c`.
-pub fn or_elim(alloc: Global, p: &Sequent, l: &Sequent, r: &Sequent) -> Result<Option<Sequent>, NoMemory>
+pub fn or_elim(
+    alloc: Global,
+    p: &Sequent,
+    l: &Sequent,
+    r: &Sequent,
+) -> Result<Option<Sequent>, NoMemory>
     ensures { IfOk result (λ o. o ≡ or_elim_of p.now l.now r.now) }
 {
     if !(is_disjunction(&p.concl) && tied(&l.concl, &r.concl)) {
@@ -134,7 +157,12 @@ pub fn or_elim(alloc: Global, p: &Sequent, l: &Sequent, r: &Sequent) -> Result<O
 }
 
 /// From `G : false` to `G - t : ~t`.
-pub fn not_intro(alloc: Global, sig: &Sig, t: &Term, p: &Sequent) -> Result<Option<Sequent>, NoMemory>
+pub fn not_intro(
+    alloc: Global,
+    sig: &Sig,
+    t: &Term,
+    p: &Sequent,
+) -> Result<Option<Sequent>, NoMemory>
     ensures { IfOk result (λ o. o ≡ not_intro_of sig.now t.now p.now) }
 {
     if !(is_formula(alloc, sig, t)? && is_falsum(&p.concl)) {
@@ -153,7 +181,10 @@ pub fn not_elim(alloc: Global, p: &Sequent, q: &Sequent) -> Result<Option<Sequen
         return Ok(None);
     }
     let hyps = p.hyps.union(alloc, &q.hyps)?;
-    Ok(Some(Sequent { hyps, concl: Term::Con(Konst::False) }))
+    Ok(Some(Sequent {
+        hyps,
+        concl: Term::Con(Konst::False),
+    }))
 }
 
 /// `{} : true`
@@ -161,7 +192,10 @@ pub fn true_intro(alloc: Global) -> Result<Option<Sequent>, NoMemory>
     ensures { IfOk result (λ o. o ≡ true_intro_of) }
 {
     let hyps = Hyps::none(alloc)?;
-    Ok(Some(Sequent { hyps, concl: Term::Con(Konst::True) }))
+    Ok(Some(Sequent {
+        hyps,
+        concl: Term::Con(Konst::True),
+    }))
 }
 
 /// `G - ~t`
@@ -172,12 +206,20 @@ fn without_denial(alloc: Global, g: &Hyps, t: &Term) -> Result<Hyps, NoMemory>
 }
 
 /// From `G : false` to `G - ~t : t`.
-pub fn classical(alloc: Global, sig: &Sig, t: &Term, p: &Sequent) -> Result<Option<Sequent>, NoMemory>
+pub fn classical(
+    alloc: Global,
+    sig: &Sig,
+    t: &Term,
+    p: &Sequent,
+) -> Result<Option<Sequent>, NoMemory>
     ensures { IfOk result (λ o. o ≡ classical_of sig.now t.now p.now) }
 {
     if !(is_formula(alloc, sig, t)? && is_falsum(&p.concl)) {
         return Ok(None);
     }
     let hyps = without_denial(alloc, &p.hyps, t)?;
-    Ok(Some(Sequent { hyps, concl: copy(t)? }))
+    Ok(Some(Sequent {
+        hyps,
+        concl: copy(t)?,
+    }))
 }
