@@ -26,6 +26,3 @@ pub use shapes::{
     is_falsum, is_implication, is_lambda, is_negation, is_redex, is_universal, left, right,
 };
 pub use step::{Step, ThmId};
-
-#[cfg(test)]
-mod tests;
