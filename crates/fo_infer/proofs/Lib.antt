@@ -1,0 +1,10 @@
+pub mod Changes
+pub mod Factorings
+pub mod Listing
+pub mod Narrowing
+pub mod OneLists
+pub mod OrderKept
+pub mod Paramodulants
+pub mod Resolvents
+pub mod Rising
+pub mod Unifiers

@@ -1,0 +1,8 @@
+use Rattle.std.proofs.Common.{map}
+use Rattle.fo_infer.specs.declared.made.Rule.TheVariants.{Factor}
+use Rattle.fo_infer.specs.Inferences.{AloneGives, upto}
+use Rattle.fo_infer.specs.Adding.{Adds}
+use Rattle.fo_infer.proofs.single.factor_literal.Given as goal
+
+abbrev pub invariant-loop-j : goal.invariant-loop-j
+invariant-loop-j l = Adds (AloneGives l.p) (map (λ j. Factor l.fn.i j) (upto l.j)) l.initial.out l.out

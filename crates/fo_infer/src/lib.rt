@@ -1,0 +1,27 @@
+//! The inferences of the calculus over clauses, and subsumption.
+#![tactic(auto)]
+
+mod adding;
+mod concluding;
+mod laws;
+mod made;
+mod pairs;
+mod paramodulating;
+mod paths;
+mod reading;
+mod refutation;
+mod renaming;
+mod resolving;
+mod single;
+mod source;
+mod subsuming;
+
+pub use laws::{alone_is_one_list, between_is_one_list};
+pub use made::{Made, Rule};
+pub use pairs::{between, between_plain};
+pub use refutation::{Line, Origin, Refutation};
+pub use single::alone;
+pub use subsuming::subsumes;
+
+#[cfg(test)]
+mod tests;

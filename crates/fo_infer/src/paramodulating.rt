@@ -1,0 +1,379 @@
+ghost use Rattle.std.specs.Prelude.{◌≡◌, ◌<◌, ◌+◌, ◌++◌, ◌∷◌, [], ℕ, map, take, drop, length, Some, slice_get, slice_set, IfOk, OnOk, MatchBool};
+ghost use Rattle.std.specs.List.{remove};
+ghost use Rattle.fo_terms.specs.Substitution.{put_literals};
+ghost use Rattle.fo_terms.specs.declared.term.FoTerm.{FoTerm};
+ghost use Rattle.fo_unify.specs.Lookup.{term_of};
+ghost use Rattle.fo_order.specs.Eligible.{IsEligible};
+ghost use Rattle.fo_infer.specs.declared.made.Rule.TheVariants.{Para};
+ghost use Rattle.fo_infer.specs.Paths.{paths_of, behind_places, at_atom_path, atom_paths};
+ghost use Rattle.fo_infer.specs.Inferences.{renamed_apart, conclusion, literal_replaced, PairGives, position_rules, direction_rules, para_rules, all_para_rules};
+ghost use Rattle.fo_infer.specs.Adding.{Answered, entry, Adds};
+ghost use Rattle.fo_infer.specs.Places.{position_of, IsSource, NotBelow, rules_behind};
+
+use crate::adding::add;
+use crate::concluding::{push_put, push_rest};
+use crate::paths::{fits, replace_in_atom};
+use crate::reading::sides;
+use crate::source::Source;
+use crate::{Made, Rule};
+use fo_order::{Order, eligible, kbo};
+use fo_terms::{Atom, Clause, FoTerm, Literal};
+use fo_unify::{Bind, apply, unify};
+use std::alloc::Global;
+use text_kit::{NoMemory, Rows};
+
+/// Whether the one term isn't less than or equal to the other under the unifier.
+fn not_below(alloc: Global, binds: &[Bind], s: &FoTerm, t: &FoTerm) -> Result<bool, NoMemory>
+    ensures { IfOk result (λ b. MatchBool b (NotBelow binds.now s.now t.now) (NotBelow binds.now s.now t.now → ⊥)) }
+{
+    let left = apply(alloc, &*binds, s)?;
+    let right = apply(alloc, &*binds, t)?;
+    match kbo(&left, &right) {
+        Order::Less => Ok(false),
+        Order::Equal => Ok(false),
+        Order::Greater => Ok(true),
+        Order::Unknown => Ok(true),
+    }
+}
+
+/// Adds literals with another one in the place of one of them, all with the substitution put through.
+fn push_changed(
+    alloc: Global,
+    binds: &[Bind],
+    literals: &[Literal],
+    at: usize,
+    by: Literal,
+    out: &mut Rows<Literal>,
+) -> Result<(), NoMemory>
+    requires { at < length literals.now }
+    ensures { OnOk result (out.new ≡ out.old ++ put_literals (term_of binds.now) (slice_set literals.now at by)) }
+{
+    let mut one = Rows::begin(alloc);
+    one.push(by)?;
+    push_before(alloc, &*binds, &*literals, at, out)?;
+    push_put(alloc, &*binds, one.as_slice(), out)?;
+    push_after(alloc, &*binds, &*literals, at, out)?;
+    Ok(())
+}
+
+fn push_before(
+    alloc: Global,
+    binds: &[Bind],
+    literals: &[Literal],
+    at: usize,
+    out: &mut Rows<Literal>,
+) -> Result<(), NoMemory>
+    requires { at < length literals.now }
+    ensures { OnOk result (out.new ≡ out.old ++ put_literals (term_of binds.now) (take at literals.now)) }
+{
+    push_put(alloc, &*binds, &literals[..at], out)?;
+    Ok(())
+}
+
+fn push_after(
+    alloc: Global,
+    binds: &[Bind],
+    literals: &[Literal],
+    at: usize,
+    out: &mut Rows<Literal>,
+) -> Result<(), NoMemory>
+    requires { at < length literals.now }
+    ensures { OnOk result (out.new ≡ out.old ++ put_literals (term_of binds.now) (drop (at + 1) literals.now)) }
+{
+    push_put(alloc, &*binds, &literals[at + 1..], out)?;
+    Ok(())
+}
+
+/// The rest of the left clause, and the right one with the other side at the position, the unifier put through both.
+fn conclude(
+    alloc: Global,
+    binds: &[Bind],
+    from: &Source,
+    j: usize,
+    into: &Literal,
+    path: &[u64],
+) -> Result<Clause, NoMemory>
+    requires left { from.now.i < length from.now.p.now.literals }
+    requires right { j < length from.now.apart.now }
+    ensures { IfOk result (λ c. c ≡ conclusion binds.now (remove from.now.p.now.literals from.now.i ++ slice_set from.now.apart.now j (literal_replaced path.now from.now.put_in.now into.now))) }
+{
+    let mut literals = Rows::begin(alloc);
+    push_rest(
+        alloc,
+        &*binds,
+        from.p.literals.as_slice(),
+        from.i,
+        &mut literals,
+    )?;
+    let changed = Literal {
+        positive: into.positive,
+        atom: replace_in_atom(alloc, &into.atom, path, from.put_in)?,
+    };
+    push_changed(
+        alloc,
+        &*binds,
+        from.apart.as_slice(),
+        j,
+        changed,
+        &mut literals,
+    )?;
+    let clause = Clause { literals }.normal(alloc)?;
+    Ok(clause)
+}
+
+/// What the equation gives at one subterm of the right clause's literal `j`.
+fn para_at(
+    alloc: Global,
+    from: &Source,
+    j: usize,
+    into: &Literal,
+    path: &[u64],
+    u: &FoTerm,
+) -> Result<Option<Clause>, NoMemory>
+    requires source { IsSource from.now }
+    requires place { j < length from.now.apart.now }
+    requires literal { slice_get from.now.apart.now j ≡ Some into.now }
+    requires eligible { IsEligible from.now.q.now j }
+    requires subterm { at_atom_path path.now into.now.atom ≡ Some u.now }
+    ensures { IfOk result (λ c. Answered (PairGives (position_of from.now.plain) from.now.p.now from.now.q.now (Para from.now.i from.now.swapped j path.now)) c) }
+{
+    if !fits(from.plain, &into.atom, &*path, u) {
+        return Ok(None);
+    }
+    match unify(alloc, from.sought, u)? {
+        None => Ok(None),
+        Some(unifier) => {
+            if !not_below(alloc, unifier.binds.as_slice(), from.sought, from.put_in)? {
+                return Ok(None);
+            }
+            let clause = conclude(alloc, unifier.binds.as_slice(), &*from, j, into, path)?;
+            Ok(Some(clause))
+        }
+    }
+}
+
+/// Appends what the equation gave at a subterm, where it gave something.
+fn add_at(
+    alloc: Global,
+    from: &Source,
+    j: usize,
+    path: &Rows<u64>,
+    made: Option<Clause>,
+    out: &mut Rows<Made>,
+) -> Result<(), NoMemory>
+    ensures { OnOk result (out.new ≡ out.old ++ entry (Para from.now.i from.now.swapped j path.now) made) }
+{
+    match made {
+        None => Ok(()),
+        Some(clause) => {
+            let rule = Rule::Para {
+                i: from.i as u64,
+                swapped: from.swapped,
+                j: j as u64,
+                path: path.copy(alloc)?,
+            };
+            add(out, rule, Some(clause))?;
+            Ok(())
+        }
+    }
+}
+
+/// What the equation gives at the term, whose path is given, and below it, in reading order.
+#[cycle(walking)]
+fn walk(
+    alloc: Global,
+    t: &FoTerm,
+    from: &Source,
+    j: usize,
+    into: &Literal,
+    path: &mut Rows<u64>,
+    out: &mut Rows<Made>,
+) -> Result<(), NoMemory>
+    requires source { IsSource from.now }
+    requires place { j < length from.now.apart.now }
+    requires literal { slice_get from.now.apart.now j ≡ Some into.now }
+    requires eligible { IsEligible from.now.q.now j }
+    requires subterm { at_atom_path path.old into.now.atom ≡ Some t.now }
+    ensures path { OnOk result (path.new ≡ path.old) }
+    ensures adds { OnOk result (Adds (PairGives (position_of from.now.plain) from.now.p.now from.now.q.now) (rules_behind from.now.i from.now.swapped j path.old (paths_of t.now)) out.old out.new) }
+{
+    let made = para_at(alloc, &*from, j, &*into, path.as_slice(), t)?;
+    add_at(alloc, &*from, j, &*path, made, out)?;
+    match t {
+        FoTerm::Var(_) => Ok(()),
+        FoTerm::Fun(_, args) => {
+            walk_all(alloc, args.as_slice(), from, j, into, path, out)?;
+            Ok(())
+        }
+    }
+}
+
+#[cycle(walking)]
+fn walk_all(
+    alloc: Global,
+    terms: &[FoTerm],
+    from: &Source,
+    j: usize,
+    into: &Literal,
+    path: &mut Rows<u64>,
+    out: &mut Rows<Made>,
+) -> Result<(), NoMemory>
+    requires source { IsSource from.now }
+    requires place { j < length from.now.apart.now }
+    requires literal { slice_get from.now.apart.now j ≡ Some into.now }
+    requires eligible { IsEligible from.now.q.now j }
+    requires subterms { (k : ℕ) (t : FoTerm) → slice_get terms.now k ≡ Some t → at_atom_path (path.old ++ k ∷ []) into.now.atom ≡ Some t }
+    ensures path { OnOk result (path.new ≡ path.old) }
+    ensures adds { OnOk result (Adds (PairGives (position_of from.now.plain) from.now.p.now from.now.q.now) (rules_behind from.now.i from.now.swapped j path.old (behind_places 0 (map paths_of terms.now))) out.old out.new) }
+{
+    for k in 0..terms.len() {
+        path.push(k as u64)?;
+        walk(alloc, &terms[k], &*from, j, &*into, path, out)?;
+        let _ = path.pop();
+    }
+    Ok(())
+}
+
+/// What the equation gives at the positions of one literal of the right clause, in reading order.
+fn walk_literal(
+    alloc: Global,
+    from: &Source,
+    j: usize,
+    into: &Literal,
+    out: &mut Rows<Made>,
+) -> Result<(), NoMemory>
+    requires source { IsSource from.now }
+    requires place { j < length from.now.apart.now }
+    requires literal { slice_get from.now.apart.now j ≡ Some into.now }
+    requires eligible { IsEligible from.now.q.now j }
+    ensures { OnOk result (Adds (PairGives (position_of from.now.plain) from.now.p.now from.now.q.now) (map (λ path. Para from.now.i from.now.swapped j path) (atom_paths into.now.atom)) out.old out.new) }
+{
+    match &into.atom {
+        Atom::Holds(t) => {
+            walk_side(alloc, t, &*from, j, into, 0, out)?;
+            Ok(())
+        }
+        Atom::Eq(s, t) => {
+            walk_side(alloc, s, &*from, j, into, 0, out)?;
+            walk_side(alloc, t, &*from, j, into, 1, out)?;
+            Ok(())
+        }
+    }
+}
+
+fn walk_side(
+    alloc: Global,
+    t: &FoTerm,
+    from: &Source,
+    j: usize,
+    into: &Literal,
+    side: u64,
+    out: &mut Rows<Made>,
+) -> Result<(), NoMemory>
+    requires source { IsSource from.now }
+    requires place { j < length from.now.apart.now }
+    requires literal { slice_get from.now.apart.now j ≡ Some into.now }
+    requires eligible { IsEligible from.now.q.now j }
+    requires subterm { at_atom_path (side ∷ []) into.now.atom ≡ Some t.now }
+    ensures { OnOk result (Adds (PairGives (position_of from.now.plain) from.now.p.now from.now.q.now) (rules_behind from.now.i from.now.swapped j (side ∷ []) (paths_of t.now)) out.old out.new) }
+{
+    let mut path = Rows::begin(alloc);
+    path.push(side)?;
+    walk(alloc, t, from, j, into, &mut path, out)?;
+    Ok(())
+}
+
+/// What the equation gives at the right clause's literal `j`, where that is eligible.
+fn para_literal(
+    alloc: Global,
+    from: &Source,
+    j: usize,
+    out: &mut Rows<Made>,
+) -> Result<(), NoMemory>
+    requires source { IsSource from.now }
+    requires place { j < length from.now.apart.now }
+    requires within { j < length from.now.q.now.literals }
+    ensures { OnOk result (Adds (PairGives (position_of from.now.plain) from.now.p.now from.now.q.now) (position_rules from.now.apart.now from.now.i from.now.swapped j) out.old out.new) }
+{
+    if !eligible(from.q, j) {
+        return Ok(());
+    }
+    walk_literal(alloc, &*from, j, from.apart.at(j), out)?;
+    Ok(())
+}
+
+/// What the equation gives in one direction.
+fn para_direction(alloc: Global, from: &Source, out: &mut Rows<Made>) -> Result<(), NoMemory>
+    requires source { IsSource from.now }
+    ensures { OnOk result (Adds (PairGives (position_of from.now.plain) from.now.p.now from.now.q.now) (direction_rules from.now.apart.now from.now.i from.now.swapped) out.old out.new) }
+{
+    for j in 0..from.q.literals.len() {
+        para_literal(alloc, &*from, j, out)?;
+    }
+    Ok(())
+}
+
+/// What the left clause's literal `i` gives, where it is an eligible positive equation: as written, and then swapped.
+fn para_equation(
+    alloc: Global,
+    plain: bool,
+    p: &Clause,
+    q: &Clause,
+    apart: &Rows<Literal>,
+    i: usize,
+    out: &mut Rows<Made>,
+) -> Result<(), NoMemory>
+    requires apart { apart.now ≡ renamed_apart p.now q.now }
+    requires left { i < length p.now.literals }
+    ensures { OnOk result (Adds (PairGives (position_of plain) p.now q.now) (para_rules apart.now i) out.old out.new) }
+{
+    match sides(p.literals.at(i), true) {
+        None => Ok(()),
+        Some((a, b)) => {
+            if !eligible(p, i) {
+                return Ok(());
+            }
+            let written = Source {
+                plain,
+                p,
+                q,
+                apart,
+                i,
+                swapped: false,
+                sought: a,
+                put_in: b,
+            };
+            para_direction(alloc, &written, out)?;
+            let swapped = Source {
+                plain,
+                p,
+                q,
+                apart,
+                i,
+                swapped: true,
+                sought: b,
+                put_in: a,
+            };
+            para_direction(alloc, &swapped, out)?;
+            Ok(())
+        }
+    }
+}
+
+/// The paramodulants of two clauses, in order.
+pub fn paramodulate(
+    alloc: Global,
+    plain: bool,
+    p: &Clause,
+    q: &Clause,
+    apart: &Rows<Literal>,
+    out: &mut Rows<Made>,
+) -> Result<(), NoMemory>
+    requires apart { apart.now ≡ renamed_apart p.now q.now }
+    ensures { OnOk result (Adds (PairGives (position_of plain) p.now q.now) (all_para_rules p.now q.now) out.old out.new) }
+{
+    for i in 0..p.literals.len() {
+        para_equation(alloc, plain, p, q, apart, i, out)?;
+    }
+    Ok(())
+}

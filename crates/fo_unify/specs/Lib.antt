@@ -1,0 +1,7 @@
+pub mod Lookup
+pub mod Unifier
+pub mod Unified
+pub mod Match
+pub mod Shown
+pub mod Triangle
+pub mod Leads

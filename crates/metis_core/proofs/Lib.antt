@@ -1,0 +1,9 @@
+pub mod Following
+pub mod Functional
+pub mod Indexes
+pub mod Inputs
+pub mod Picks
+pub mod Saturation
+pub mod Searches
+pub mod Stocks
+pub mod Telling

@@ -1,0 +1,9 @@
+use Rattle.std.proofs.Common.{◌≡◌, ℕ, ◌<◌, get_or, Some, slice_get}
+use Rattle.fo_terms.specs.declared.clause.Clause.{Clause}
+use Rattle.fo_infer.specs.Subsumption.{Subsumes}
+use Rattle.metis_core.specs.Stock.{clauses}
+use Rattle.metis_core.proofs.stock.is_subsumed.Given as goal
+
+-- no active clause so far
+abbrev pub invariant-loop-n : goal.invariant-loop-n
+invariant-loop-n l = (k : ℕ) → k < l.n-index → (p : Clause) → slice_get (clauses l.stock.lines) (get_or l.stock.active k 0) ≡ Some p → Subsumes p l.c → ⊥

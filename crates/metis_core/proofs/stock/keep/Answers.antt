@@ -1,0 +1,24 @@
+use Rattle.std.proofs.Common.{◌≡◌, ◌<◌, subst, sym, ap, ◌∙◌, arith, ◌+◌, length, All}
+use Rattle.std.proofs.lemmas.List.{length_push}
+use Rattle.metis_core.specs.Stock.{IsIndex, Notes}
+use Rattle.metis_core.specs.Print.{clause_print}
+use Rattle.fo_infer.specs.declared.refutation.Line.{Line}
+use Rattle.metis_core.specs.declared.waiting.Entry.{Entry}
+use Rattle.metis_core.proofs.Stocks.{index_grows, below_grows, entries_grow}
+use Rattle.metis_core.proofs.stock.keep.Goals as goal
+
+pub returns-clause-sound : goal.returns-clause-sound
+returns-clause-sound c =
+    let old = c.args.stock.now in
+    let line : Line = record { clause = c.args.clause; origin = c.args.origin } in
+    let more : length c.push-2.new.self ≡ length old.lines + 1 = ap length c.in_ok-push-2.ensures.ok ∙ length_push old.lines line in
+    let noted : Notes old.places c.note.new.known (clause_print c.args.clause) (length old.lines) =
+    subst (λ p. Notes old.places c.note.new.known p (length old.lines)) c.print_of.ensures (subst (λ n. Notes old.places c.note.new.known c.print_of.result n) c.len-number.ensures c.in_ok-note.ensures) in
+    let entry : Entry = record { weight = c.weight-weight.result; number = c.len-number.result } in
+    record {
+      index = subst (IsIndex c.note.new.known) (sym c.in_ok-push-2.ensures.ok) (index_grows old.places c.note.new.known old.lines line noted c.requires.sound.index);
+      active = below_grows old.active (length old.lines) (length c.push-2.new.self) (omega arith) c.requires.sound.active;
+      waiting = subst (λ m. All (λ e. e.number < m) c.push.new.self) (sym more)
+          (subst (All (λ e. e.number < length old.lines + 1)) (sym c.in_ok-push.ensures.ok) (entries_grow old.waiting entry (length old.lines) c.len-number.ensures c.requires.sound.waiting));
+      few = omega (arith, c.requires.room);
+    }

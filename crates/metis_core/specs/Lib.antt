@@ -1,0 +1,12 @@
+pub mod State
+pub mod Offer
+pub mod Pick
+pub mod Search
+pub mod Closed
+pub mod Ends
+pub mod Print
+pub mod Stock
+pub mod Held
+pub mod Settled
+pub mod Searched
+pub mod Inside

@@ -1,0 +1,27 @@
+-- Which waiting clause becomes the given clause.
+use Rattle.std.specs.Prelude.{◌≡◌, ℕ, ◌%◌, ◌<◌, ◌≤◌, ◌==◌, ◌⊎◌, List, All, AllPairs, Contains, MatchBool, Some, slice_get}
+use Rattle.metis_core.specs.declared.waiting.Entry.{Entry}
+
+-- the entry of least number
+abbrev pub IsOldest : List Entry → Entry → Type 0
+IsOldest waiting e = Contains waiting e × All (λ d. e.number ≤ d.number) waiting
+
+-- lighter, or of the same weight and no later number
+abbrev pub Precedes : Entry → Entry → Type 0
+Precedes e d = (e.weight < d.weight) ⊎ ((e.weight ≡ d.weight) × (e.number ≤ d.number))
+
+-- the entry of least weight, then number
+abbrev pub IsLightest : List Entry → Entry → Type 0
+IsLightest waiting e = Contains waiting e × All (Precedes e) waiting
+
+-- the entry at the place has this property
+abbrev pub Holds : List Entry → ℕ → (Entry → Type 0) → Type 0
+Holds waiting at P = (e : Entry) × (slice_get waiting at ≡ Some e) × P e
+
+-- each number is less than all later ones
+abbrev pub AreAscending : List Entry → Type 0
+AreAscending waiting = AllPairs (λ e d. e.number < d.number) waiting
+
+-- the pick of this number, counted from 1, takes the oldest where the age divides it, else the lightest
+abbrev pub IsPicked : ℕ → ℕ → List Entry → Entry → Type 0
+IsPicked age pick waiting e = MatchBool (pick % age == 0) (IsOldest waiting e) (IsLightest waiting e)

@@ -1,0 +1,32 @@
+-- How the code holds the state of a search.
+use Rattle.std.specs.Prelude.{◌≡◌, ℕ, nat_eq, List, [], ◌∷◌, ◌++◌, map, unwrap_or, Some, slice_get, Contains, if◌then◌else◌, ◌==◌}
+use Rattle.std.specs.declared.hash.FoldHasher.{FoldHasher}
+use Rattle.std.specs.declared.hash.BuildHasherDefault.{BuildHasherDefault}
+use Rattle.std.specs.HashMap.{get, HashMap}
+use Rattle.fo_terms.specs.declared.clause.Clause.{Clause}
+use Rattle.fo_infer.specs.declared.refutation.Line.{Line}
+use Rattle.metis_core.specs.Print.{clause_print}
+
+-- numbers of clauses by their prints
+abbrev pub Places : Type 0
+Places = HashMap ℕ (List ℕ) (BuildHasherDefault FoldHasher)
+
+-- the numbers at a print
+abbrev pub places_at : Places → ℕ → List ℕ
+places_at m print = unwrap_or (get nat_eq m print) []
+
+-- a number is put behind those at a print, and nothing else changes
+abbrev pub Notes : Places → Places → ℕ → ℕ → Type 0
+Notes old new print n = (q : ℕ) → places_at new q ≡ (if print == q then places_at old q ++ n ∷ [] else places_at old q)
+
+-- each line's number stands at its clause's print
+abbrev pub IsIndex : Places → List Line → Type 0
+IsIndex m lines = (n : ℕ) (l : Line) → slice_get lines n ≡ Some l → Contains (places_at m (clause_print l.clause)) n
+
+-- the clauses of lines
+abbrev pub clauses : List Line → List Clause
+clauses lines = map (λ l. l.clause) lines
+
+-- the line of this number holds the clause
+abbrev pub IsLine : List Line → Clause → ℕ → Type 0
+IsLine lines c n = (l : Line) × (slice_get lines n ≡ Some l) × (l.clause ≡ c)

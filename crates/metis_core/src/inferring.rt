@@ -1,0 +1,130 @@
+ghost use Rattle.std.specs.Prelude.{◌≡◌, ◌<◌, ◌≤◌, ◌∷◌, ◌≢◌, [], IfOk, OnOk, length, take};
+ghost use Rattle.fo_infer.specs.Inferences.{BetweenAt};
+ghost use Rattle.metis_core.specs.Offer.{Offer, Through};
+ghost use Rattle.metis_core.specs.Search.{position_of, Infers, Inferred, Pick, normal_forms, pairs};
+ghost use Rattle.metis_core.specs.declared.premises.Premises.{Premises};
+ghost use Rattle.metis_core.specs.Held.{state_of, IsRunning, IsSound, Told, Ends, ArePremises, origin_of};
+
+use crate::given::{Given, Positions};
+use crate::premises::Premises;
+use crate::stock::{Stock, activate, offer};
+use crate::stop::Stop;
+use fo_infer::{Made, Origin, Rule, alone, between, between_plain};
+use fo_terms::Clause;
+use std::alloc::Global;
+use text_kit::{NoMemory, Rows};
+
+fn between_at(
+    alloc: Global,
+    positions: Positions,
+    p: &Clause,
+    q: &Clause,
+) -> Result<Rows<Made>, NoMemory>
+    ensures { IfOk result (λ made. BetweenAt (position_of positions) p.now q.now made) }
+{
+    match positions {
+        Positions::Tagged => Ok(between(alloc, p, q)?),
+        Positions::Plain => Ok(between_plain(alloc, p, q)?),
+    }
+}
+
+fn inferences(
+    positions: Positions,
+    stock: &Stock,
+    premises: Premises,
+) -> Result<Rows<Made>, NoMemory>
+    requires { ArePremises (length stock.now.lines) premises }
+    ensures { IfOk result (λ made. Infers positions (state_of stock.now) premises made) }
+{
+    match premises {
+        Premises::One(n) => Ok(alone(stock.alloc, &stock.lines.at(n as usize).clause)?),
+        Premises::Two(n, m) => {
+            let left = &stock.lines.at(n as usize).clause;
+            let right = &stock.lines.at(m as usize).clause;
+            Ok(between_at(stock.alloc, positions, left, right)?)
+        }
+    }
+}
+
+fn origin(premises: Premises, rule: Rule) -> Origin
+    ensures { result ≡ origin_of premises rule }
+{
+    match premises {
+        Premises::One(n) => Origin::Alone {
+            of: u64::from(n),
+            rule,
+        },
+        Premises::Two(n, m) => Origin::Pair {
+            left: u64::from(n),
+            right: u64::from(m),
+            rule,
+        },
+    }
+}
+
+/// Offers all inferences of these premises.
+fn infer(given: &Given, stock: &mut Stock, premises: Premises) -> Result<(), Stop>
+    requires running { IsRunning given.now stock.old }
+    requires within { ArePremises (length stock.old.lines) premises }
+    ensures running { OnOk result (IsRunning given.now stock.new) }
+    ensures active { OnOk result (stock.new.active ≡ stock.old.active) }
+    ensures grows { OnOk result (length stock.old.lines ≤ length stock.new.lines) }
+    ensures inferred { Told result (state_of stock.new) (Inferred given.now.positions (state_of stock.old) premises) }
+    ensures ends { Ends given.now result stock.new.lines }
+{
+    let made = inferences(given.positions, &*stock, premises)?;
+    for m in made.into_vec() {
+        let Made { clause, rule } = m;
+        offer(stock, clause, origin(premises, rule))?;
+    }
+    Ok(())
+}
+
+/// Offers the inferences of the given clause: alone, and then with each active clause, itself the last.
+fn infer_all(given: &Given, stock: &mut Stock, g: u32, earlier: usize) -> Result<(), Stop>
+    requires running { IsRunning given.now stock.old }
+    requires kept { g < length stock.old.lines }
+    requires within { earlier ≤ length stock.old.active }
+    ensures running { OnOk result (IsRunning given.now stock.new) }
+    ensures inferred { Told result (state_of stock.new) (Through (Inferred given.now.positions) (state_of stock.old) (Premises.One g ∷ pairs g (take earlier stock.old.active))) }
+    ensures ends { Ends given.now result stock.new.lines }
+{
+    infer(given, stock, Premises::One(g))?;
+    for i in 0..earlier {
+        let a = *stock.active.at(i);
+        infer(given, stock, Premises::Two(a, g))?;
+        infer(given, stock, Premises::Two(g, a))?;
+    }
+    infer(given, stock, Premises::Two(g, g))?;
+    Ok(())
+}
+
+/// Makes the pick of this number: a waiting clause becomes active, and all its inferences are offered.
+pub fn pick(given: &Given, stock: &mut Stock, number: u32) -> Result<(), Stop>
+    requires running { IsRunning given.now stock.old }
+    requires waits { stock.old.waiting ≢ [] }
+    requires age { 1 ≤ given.now.age }
+    ensures running { OnOk result (IsRunning given.now stock.new) }
+    ensures picked { Told result (state_of stock.new) (Pick given.now number (state_of stock.old)) }
+    ensures ends { Ends given.now result stock.new.lines }
+{
+    let earlier = stock.active.len();
+    let g = activate(stock, number % given.age == 0)?;
+    infer_all(given, stock, g, earlier)?;
+    Ok(())
+}
+
+/// Offers the inputs in order.
+pub fn offer_inputs(given: &Given, stock: &mut Stock) -> Result<(), Stop>
+    requires sound { IsSound stock.old }
+    requires lines { stock.old.lines ≡ [] }
+    ensures running { OnOk result (IsRunning given.now stock.new) }
+    ensures offered { Told result (state_of stock.new) (Through Offer (state_of stock.old) (normal_forms given.now.inputs)) }
+    ensures ends { Ends given.now result stock.new.lines }
+{
+    for i in 0..given.inputs.len() {
+        let clause = given.inputs.at(i).copy(stock.alloc)?.normal(stock.alloc)?;
+        offer(stock, clause, Origin::Input { number: i as u64 })?;
+    }
+    Ok(())
+}

@@ -1,0 +1,23 @@
+//! The search for a refutation with a given clause.
+#![tactic(auto)]
+
+mod given;
+mod inferring;
+mod known;
+mod laws;
+mod premises;
+mod print;
+mod search;
+mod stock;
+mod stop;
+mod turn;
+mod waiting;
+
+pub use given::{Given, Positions};
+pub use laws::search_is_definite;
+pub use search::Search;
+pub use turn::Turn;
+pub use waiting::Entry;
+
+#[cfg(test)]
+mod tests;

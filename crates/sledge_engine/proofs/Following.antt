@@ -1,0 +1,58 @@
+-- Derivations grow step by step.
+use Rattle.std.proofs.Common.{◌≡◌, ℕ, ◌+◌, ◌<◌, Bool, IsTrue, List, [], ◌∷◌, ◌++◌, length, take, drop, get_or, Some, None, Ok, Err, refl, sym, ◌∙◌, ap, subst}
+use Rattle.std.specs.Prelude.{Option, Result, IfOk, All, Contains}
+use Rattle.std.proofs.lemmas.List.{take_more, drop_more, take-append-drop}
+use Rattle.std.proofs.lemmas.List.Elements.{All-append}
+use Rattle.hol_terms.specs.declared.env.Env.{Env}
+use Rattle.kernel_rules.specs.declared.step.Step.{Step}
+use Rattle.kernel_rules.specs.declared.sequent.Sequent.{Sequent}
+use Rattle.kernel_rules.specs.Derivations.{Proves, derived, derived_from, leaf, leaves, onto, sequent}
+use Rattle.sledge_engine.specs.Derived.{IsDerived}
+
+onto_some : (now : List Sequent → Option (List Sequent)) (done seqs : List Sequent) (o : Option Sequent) → onto now done o ≡ Some seqs →
+    (q : Sequent) × ((o ≡ Some q) × (now (done ++ q ∷ []) ≡ Some seqs))
+onto_some now done seqs None h = cc
+onto_some now done seqs (Some q) h = (q, (refl, h))
+
+derived_more : (env : Env) (xs ys : List Step) (done d : List Sequent) → derived_from env xs done ≡ Some d → derived_from env (xs ++ ys) done ≡ derived_from env ys d
+derived_more env [] ys done d h = let same : done ≡ d = cc in ap (derived_from env ys) same
+derived_more env (s ∷ xs) ys done d h =
+    let first = onto_some (derived_from env xs) done d (sequent env s done) h in
+    ap (onto (derived_from env (xs ++ ys)) done) first.1.0 ∙ derived_more env xs ys (done ++ first.0 ∷ []) d first.1.1
+
+pushed : (env : Env) (old new : List Sequent) (o : Option Sequent) → onto (λ x. Some x) old o ≡ Some new → onto (derived_from env []) old o ≡ Some new
+pushed env old new None h = cc
+pushed env old new (Some q) h = h
+
+missing : (env : Env) (rest : List Step) (old : List Sequent) (o : Option Sequent) → onto (λ x. Some x) old o ≡ None → onto (derived_from env rest) old o ≡ None
+missing env rest old None h = refl
+missing env rest old (Some q) h = cc
+
+item_first : (steps : List Step) (i : ℕ) (s : Step) → i < length steps → s ≡ get_or steps i s → drop i steps ≡ s ∷ drop (i + 1) steps
+item_first steps i s h is = drop_more steps i s h ∙ ap (λ x. x ∷ drop (i + 1) steps) (sym is)
+
+-- one step more has a sequent
+pub one_more : (env : Env) (steps : List Step) (i : ℕ) (s : Step) (old new : List Sequent) → i < length steps → s ≡ get_or steps i s →
+    derived env (take i steps) ≡ Some old → onto (λ x. Some x) old (sequent env s old) ≡ Some new → derived env (take (i + 1) steps) ≡ Some new
+one_more env steps i s old new h is before step =
+    ap (λ l. derived env l) (take_more steps i s h ∙ ap (λ x. take i steps ++ x ∷ []) (sym is))
+    ∙ derived_more env (take i steps) (s ∷ []) [] old before ∙ pushed env old new (sequent env s old) step
+
+-- a step without a sequent
+pub none_more : (env : Env) (steps : List Step) (i : ℕ) (s : Step) (old : List Sequent) → i < length steps → s ≡ get_or steps i s →
+    derived env (take i steps) ≡ Some old → onto (λ x. Some x) old (sequent env s old) ≡ None → derived env steps ≡ None
+none_more env steps i s old h is before step =
+    ap (λ l. derived env l) (sym (take-append-drop i steps) ∙ ap (λ l. take i steps ++ l) (item_first steps i s h is))
+    ∙ derived_more env (take i steps) (s ∷ drop (i + 1) steps) [] old before ∙ missing env (drop (i + 1) steps) old (sequent env s old) step
+
+-- a step that names no fact but these
+pub allowed_more : (named : List ℕ) (steps : List Step) (i : ℕ) (s : Step) → i < length steps → s ≡ get_or steps i s → All (Contains named) (leaf s) →
+    All (Contains named) (leaves (drop (i + 1) steps)) → All (Contains named) (leaves (drop i steps))
+allowed_more named steps i s h is one rest =
+    subst (λ l. All (Contains named) (leaves l)) (sym (item_first steps i s h is)) (All-append (Contains named) (leaf s) (leaves (drop (i + 1) steps)) one rest)
+
+-- steps that prove the goal and name no facts but these derive it from these
+pub derived_by : {E : Type 0} (env : Env) (named : List ℕ) (steps : List Step) (r : Result Bool E) → All (Contains named) (leaves steps) →
+    IfOk r (λ b. IsTrue b → Proves env steps) → IfOk r (λ b. IsTrue b → IsDerived env named)
+derived_by env named steps (Ok b) from proves = λ h. record { steps = steps; proves = proves h; from = from }
+derived_by env named steps (Err e) from proves = tt

@@ -1,0 +1,13 @@
+mod Places
+mod Clauses
+mod Derivations
+mod Covers
+mod Named
+mod Statements
+mod Refusals
+mod Sentences
+mod Fitting
+mod Visibility
+mod Replying
+mod Following
+mod Deriving

@@ -1,0 +1,22 @@
+-- A reply from what a call says of its status and its text.
+use Rattle.std.proofs.Common.{ℕ, ◌≡◌, List, Result, Ok, Err, sym, subst}
+use Rattle.std.specs.Result.{IfOk}
+use Rattle.text_kit.specs.declared.NoMemory.{NoMemory}
+use Rattle.sledge_engine.specs.Replies.{Outside, Told, Reply, Answered, told, cut_off}
+use Rattle.sledge_engine.specs.Sinking.{IsPut, whole, part}
+
+pub if_ok_map : {T E : Type 0} (r : Result T E) (P Q : T → Type 0) → ((x : T) → P x → Q x) → IfOk r P → IfOk r Q
+if_ok_map (Ok x) P Q f h = f x h
+if_ok_map (Err e) P Q f h = tt
+
+-- `R status text` holds of the status and the text that a call gives
+pub reply_with : (R : ℕ → List ℕ → Type 0) (r : Result ℕ NoMemory) (status : ℕ) (text new : List ℕ) → R status text →
+    IfOk r (λ x. (x ≡ status) × (new ≡ text)) → IfOk r (λ x. R x new)
+reply_with R r status text new holds =
+    if_ok_map r (λ x. (x ≡ status) × (new ≡ text)) (λ x. R x new) (λ x h. subst (λ y. R y new) (sym h.0) (subst (R status) (sym h.1) holds))
+
+-- the answer to words from a reply and what became of its text
+pub answered_by : (words : List (List ℕ)) (o : Outside) (t : Told) (status result : ℕ) (text : List ℕ) → Reply words o status text → IsPut t text status result →
+    Answered words o t result
+answered_by words o t status result text reply (whole h) = told status text reply h
+answered_by words o t status result text reply (part h rose) = cut_off status text reply h rose

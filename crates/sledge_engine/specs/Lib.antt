@@ -1,0 +1,16 @@
+pub mod Ground
+pub mod Searches
+pub mod Words
+pub mod Texts
+pub mod Formulas
+pub mod Splits
+pub mod SmallForm
+pub mod Environments
+pub mod Choice
+pub mod Derived
+pub mod Proofs
+pub mod Replies
+pub mod Outcomes
+pub mod Shown
+pub mod Fetches
+pub mod Sinking

@@ -1,0 +1,41 @@
+-- The texts of `sledge`, each line with its end.
+use Rattle.std.specs.Prelude.{ℕ, List, ◌∷◌, ◌++◌, codes}
+use Rattle.std.specs.List.{flat_map}
+
+-- a text round a name
+abbrev pub around : List ℕ → List ℕ → List ℕ → List ℕ
+around before name after = before ++ name ++ after
+
+abbrev pub usage_text : List ℕ
+usage_text = codes "fault: usage\n"
+
+abbrev pub memory_text : List ℕ
+memory_text = codes "fault: memory\n"
+
+abbrev pub file_text : List ℕ → List ℕ
+file_text name = around (codes "fault: file ") name (codes "\n")
+
+abbrev pub long_file_text : List ℕ → List ℕ
+long_file_text name = around (codes "fault: file ") name (codes " too long\n")
+
+abbrev pub not_built_text : List ℕ
+not_built_text = codes "fault: theory not built\n"
+
+abbrev pub goal_text : List ℕ → List ℕ
+goal_text name = around (codes "fault: goal ") name (codes "\n")
+
+abbrev pub fact_text : List ℕ → List ℕ
+fact_text name = around (codes "fault: fact ") name (codes "\n")
+
+abbrev pub saturated_text : List ℕ
+saturated_text = codes "proof: not found (saturated)\n"
+
+abbrev pub spent_text : List ℕ
+spent_text = codes "proof: not found (spent)\n"
+
+-- a space and a name, for each
+abbrev pub spaced : List (List ℕ) → List ℕ
+spaced names = flat_map (λ name. 32 ∷ name) names
+
+abbrev pub metis_text : List (List ℕ) → List ℕ
+metis_text names = around (codes "proof: by metis") (spaced names) (codes "\n")
