@@ -3,9 +3,8 @@
 
 use race_outside::{FileShelf, StreamSink};
 use sledge_engine::answer;
-use std::env;
-use std::io;
 use std::process::ExitCode;
+use std::{env, io};
 
 /// The words behind the program's name.
 fn words(rt: &HostRuntime) -> io::Result<Vec<String>> {
