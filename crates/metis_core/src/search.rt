@@ -188,6 +188,14 @@ impl Search {
         self.reached
     }
 
+    /// Lends the clauses kept so far by number, each with its origin; where the search found a refutation, the empty clause stands last.
+    /// It takes no memory.
+    pub fn kept(&self) -> &Rows<Line>
+        ensures { result.now ≡ self.now.lines }
+    {
+        &self.stock.lines
+    }
+
     /// Hands out the refutation: the kept clauses by number, and behind them the empty clause. It takes no memory.
     pub fn into_refutation(self) -> Refutation
         requires { self.reached ≡ Turn.Found }

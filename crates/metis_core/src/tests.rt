@@ -145,29 +145,72 @@ fn needs_as_many_picks(rt: HostRuntime) -> Result<(), Fail> {
     Ok(())
 }
 
-/// Every fifth pick takes the oldest clause, however heavy.
+const APP: u64 = 0;
+
+const BOOL: u64 = 10;
+
+const NAT: u64 = 11;
+
+const NAT_TO_NAT: u64 = 12;
+
+const NAT_TO_BOOL: u64 = 13;
+
+const ZERO: u64 = 20;
+
+const SUC: u64 = 21;
+
+const E: u64 = 22;
+
+fn applied(alloc: Global, f: FoTerm, x: FoTerm) -> Result<FoTerm, NoMemory> {
+    let mut args = Rows::begin(alloc);
+    args.push(f)?;
+    args.push(x)?;
+    Ok(FoTerm::Fun(APP, args))
+}
+
+/// `suc zero`, tagged
+fn one(alloc: Global) -> Result<FoTerm, NoMemory> {
+    let zero = tag(alloc, NAT, constant(alloc, ZERO))?;
+    let suc = tag(alloc, NAT_TO_NAT, constant(alloc, SUC))?;
+    tag(alloc, NAT, applied(alloc, suc, zero)?)
+}
+
+/// `e (suc zero)`, tagged
+fn heavy(alloc: Global) -> Result<FoTerm, NoMemory> {
+    let e = tag(alloc, NAT_TO_BOOL, constant(alloc, E))?;
+    let arg = one(alloc)?;
+    tag(alloc, BOOL, applied(alloc, e, arg)?)
+}
+
+fn heavy_unit(alloc: Global, positive: bool) -> Result<Clause, NoMemory> {
+    let mut literals = Rows::begin(alloc);
+    literals.push(Literal {
+        positive,
+        atom: Atom::Holds(heavy(alloc)?),
+    })?;
+    Ok(Clause { literals })
+}
+
+/// Two heavy units that contradict each other, then eleven light ones.
+fn heavy_first(alloc: Global) -> Result<Rows<Clause>, NoMemory> {
+    let mut inputs = Rows::begin(alloc);
+    inputs.push(heavy_unit(alloc, true)?)?;
+    inputs.push(heavy_unit(alloc, false)?)?;
+    for f in 30..40 {
+        inputs.push(clause(alloc, &[(true, f)])?)?;
+    }
+    inputs.push(clause(alloc, &[(false, 40)])?)?;
+    Ok(inputs)
+}
+
+/// Every fifth pick takes the oldest clause, however heavy. No other pick before the twelfth takes a heavy one, since eleven are
+/// lighter: so the first heavy one is pick 5 and the second pick 10.
 #[test]
 fn picks_the_oldest(rt: HostRuntime) -> Result<(), Fail> {
     let alloc = rt.alloc();
-    let mut inputs = Rows::begin(alloc);
-    for positive in [true, false] {
-        let heavy = tag(
-            alloc,
-            0,
-            tag(alloc, 30, tag(alloc, 31, constant(alloc, 32))?)?,
-        )?;
-        let mut literals = Rows::begin(alloc);
-        literals.push(Literal {
-            positive,
-            atom: Atom::Holds(heavy),
-        })?;
-        inputs.push(Clause { literals })?;
-    }
-    for f in 1..11 {
-        inputs.push(clause(alloc, &[(true, f)])?)?;
-    }
-    inputs.push(clause(alloc, &[(false, 11)])?)?;
-    let mut search = Search::begin(alloc, inputs, 10)?;
+    let mut search = Search::begin(alloc, heavy_first(alloc)?, 10)?;
     assert_eq!(rt; run(&mut search), (Turn::Found, 10));
+    let mut short = Search::begin(alloc, heavy_first(alloc)?, 9)?;
+    assert_eq!(rt; run(&mut short), (Turn::Spent, 9));
     Ok(())
 }

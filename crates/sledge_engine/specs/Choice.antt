@@ -1,37 +1,47 @@
 -- The facts that a command names.
-use Rattle.std.specs.Prelude.{ℕ, ◌≡◌, ◌+◌, Bool, if◌then◌else◌, List, [], ◌∷◌, ◌++◌, take, map, filter, All}
-use Rattle.std.specs.List.{list_any}
+use Rattle.std.specs.Prelude.{ℕ, ◌≡◌, ◌+◌, Bool, if◌then◌else◌, IsSome, List, [], ◌∷◌, ◌++◌, Option, None, map, filter, All}
+use Rattle.std.specs.List.{list_any, position}
 use Rattle.std.specs.Str.{bytes_eq}
-use Rattle.sledge_engine.specs.declared.small_form.theory.Small.{Small}
-use Rattle.sledge_engine.specs.declared.small_form.theory.SmallFact.{SmallFact}
-use Rattle.sledge_engine.specs.declared.small_form.theory.SmallGoal.{SmallGoal}
-use Rattle.sledge_engine.specs.SmallForm.{NoVisible, IsVisible}
+use Rattle.theory_reader.specs.declared.theory.Theory.{Theory}
+use Rattle.theory_reader.specs.Visible.{visible}
 
 -- the name is one of these
 abbrev pub is_named : List (List ℕ) → List ℕ → Bool
 is_named names name = list_any (λ n. bytes_eq n name) names
 
--- the places, counted from `i`, of the facts with these names
-abbrev pub places_from : ℕ → List (List ℕ) → List SmallFact → List ℕ
+-- the places, counted from `i`, of the facts with one of these names
+abbrev pub places_from : ℕ → List (List ℕ) → List (List ℕ) → List ℕ
 places_from i names [] = []
-places_from i names (f ∷ fs) = if is_named names f.name then i ∷ places_from (i + 1) names fs else places_from (i + 1) names fs
+places_from i names (f ∷ fs) = if is_named names f then i ∷ places_from (i + 1) names fs else places_from (i + 1) names fs
 
--- the numbers of the named facts before the goal, ascending
-abbrev pub chosen : List (List ℕ) → Small → SmallGoal → List ℕ
-chosen names s g = places_from 0 names (take g.before s.facts)
+-- the names of the facts that a goal is proved from: those before it, and then its assumptions
+abbrev pub seen : Theory → ℕ → List (List ℕ)
+seen t goal = map (λ f. f.name) (visible t goal)
+
+-- the numbers of the named ones, ascending
+abbrev pub chosen : List (List ℕ) → Theory → ℕ → List ℕ
+chosen names t goal = places_from 0 names (seen t goal)
 
 -- their names, in file order
-abbrev pub chosen_names : List (List ℕ) → Small → SmallGoal → List (List ℕ)
-chosen_names names s g = map (λ f. f.name) (filter (λ f. is_named names f.name) (take g.before s.facts))
+abbrev pub chosen_names : List (List ℕ) → Theory → ℕ → List (List ℕ)
+chosen_names names t goal = filter (is_named names) (seen t goal)
 
--- each name is that of a fact before the goal
-abbrev pub AllVisible : Small → ℕ → List (List ℕ) → Type 0
-AllVisible s goal names = All (λ name. (k : ℕ) × IsVisible s goal name k) names
+-- where the goal finds the name
+abbrev pub place_seen : Theory → ℕ → List ℕ → Option ℕ
+place_seen t goal name = position (λ f. bytes_eq name f.name) (visible t goal)
 
--- the first name that is no fact's before the goal
-pub record IsFirstHidden (s : Small) (goal : ℕ) (names : List (List ℕ)) (name : List ℕ) : Type 0 where
+-- the number of the goal of this name
+abbrev pub goal_place : Theory → List ℕ → Option ℕ
+goal_place t name = position (λ g. bytes_eq name g.name) t.goals
+
+-- each name is that of a fact which the goal may be proved from
+abbrev pub AllVisible : Theory → ℕ → List (List ℕ) → Type 0
+AllVisible t goal names = All (λ name. IsSome (place_seen t goal name)) names
+
+-- the first name that isn't
+pub record IsFirstHidden (t : Theory) (goal : ℕ) (names : List (List ℕ)) (name : List ℕ) : Type 0 where
   pub before : List (List ℕ)
   pub rest : List (List ℕ)
   pub is : names ≡ before ++ name ∷ rest
-  pub visible : AllVisible s goal before
-  pub hidden : NoVisible s goal name
+  pub visible : AllVisible t goal before
+  pub hidden : place_seen t goal name ≡ None

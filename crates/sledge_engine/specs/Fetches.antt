@@ -1,8 +1,8 @@
 -- What a fetch of a theory file tells.
 use Rattle.std.specs.Prelude.{ℕ, ◌≡◌, ◌<◌, ◌≤◌, Bool, List, length, Option}
 use Rattle.race_outside.specs.Shelves.{Files, Fetched}
-use Rattle.sledge_engine.specs.declared.metis.Fetch.{Fetch}
-use Rattle.sledge_engine.specs.declared.metis.Fetch.TheVariants.{Whole, TooLong, Failed}
+use Rattle.sledge_engine.specs.declared.fetching.Fetch.{Fetch}
+use Rattle.sledge_engine.specs.declared.fetching.Fetch.TheVariants.{Whole, TooLong, Failed}
 use Rattle.sledge_engine.specs.Replies.{Outside, NoFile, most_bytes}
 
 abbrev pub outside : Option Files → Bool → ℕ → ℕ → Outside
@@ -18,3 +18,9 @@ abbrev pub IsWithin : List ℕ → Fetch → Type 0
 IsWithin bytes (Whole given) = (given ≡ bytes) × (length bytes ≤ most_bytes)
 IsWithin bytes TooLong = most_bytes < length bytes
 IsWithin bytes Failed = ⊥
+
+-- what was fetched whole is within the limit
+abbrev pub IsShort : Fetch → Type 0
+IsShort (Whole bytes) = length bytes ≤ most_bytes
+IsShort TooLong = Unit {0}
+IsShort Failed = Unit {0}

@@ -1,37 +1,45 @@
--- What `metis` answers and why: for each way to answer its exit status and its text.
-use Rattle.std.specs.Prelude.{ℕ, ◌≡◌, ◌<◌, ◌≤◌, Bool, IsTrue, List, length, Option, Some, None, slice_get}
+-- What a command answers and why: for each way to answer its exit status and its text.
+use Rattle.std.specs.Prelude.{ℕ, ◌≡◌, ◌<◌, ◌≤◌, Bool, IsTrue, List, length, Option, Some, None}
 use Rattle.race_outside.specs.Causes.{Rose}
 use Rattle.race_outside.specs.Shelves.{Files, Fetched, Lacks}
 use Rattle.race_outside.specs.Sinks.{TookAll, TookSome}
-use Rattle.sledge_engine.specs.declared.small_form.theory.Small.{Small}
-use Rattle.sledge_engine.specs.declared.small_form.theory.SmallGoal.{SmallGoal}
-use Rattle.sledge_engine.specs.Words.{Line, line_of}
-use Rattle.sledge_engine.specs.SmallForm.{IsSmall, NotSmall, NoGoal, IsGoal}
-use Rattle.sledge_engine.specs.Choice.{chosen, chosen_names, AllVisible, IsFirstHidden}
+use Rattle.theory_gen.specs.Generated.{generated}
+use Rattle.theory_terms.specs.declared.fault.TheoryKind.{TheoryKind}
+use Rattle.theory_reader.specs.declared.theory.Theory.{Theory}
+use Rattle.theory_reader.specs.Reading.{Reads, Faulty}
+use Rattle.theory_reader.specs.Visible.{declarations}
+use Rattle.sledge_engine.specs.Words.{Line, line_of, IsGen, NoGen}
+use Rattle.sledge_engine.specs.Choice.{chosen, chosen_names, goal_place, AllVisible, IsFirstHidden}
+use Rattle.sledge_engine.specs.Built.{IsUnbuilt, IsBuilt}
 use Rattle.sledge_engine.specs.Proofs.{HasProof}
-use Rattle.sledge_engine.specs.Texts.{usage_text, memory_text, file_text, long_file_text, not_built_text, goal_text, fact_text, saturated_text, spent_text, metis_text}
+use Rattle.sledge_engine.specs.Texts.{usage_text, memory_text, file_text, long_file_text, theory_text, not_built_text, goal_text, fact_text, saturated_text, spent_text, metis_text}
 
 -- a theory file holds at most 16 MiB
 abbrev pub most_bytes : ℕ
 most_bytes = 16777216
 
--- the reply of this status and this text to a goal of a theory, which is to be proved from the facts of these names
-pub data GoalReply (s : Small) (goal : ℕ) (names : List (List ℕ)) : ℕ → List ℕ → Type 0 where
-  -- a name isn't that of a fact before the goal
-  hidden : (name : List ℕ) → IsFirstHidden s goal names name → GoalReply s goal names 2 (fact_text name)
+-- the reply of this status and this text to the goal of this number, which is to be proved from the facts of these names
+pub data GoalReply (t : Theory) (goal : ℕ) (names : List (List ℕ)) : ℕ → List ℕ → Type 0 where
+  -- a fact that the goal may be proved from, or the goal, is no clause over constants of type bool
+  not_built : (name : List ℕ) → IsUnbuilt t goal name → GoalReply t goal names 4 (not_built_text name)
+  -- a name isn't that of a fact before the goal or of an assumption of it
+  hidden : (name : List ℕ) → IsBuilt t goal → IsFirstHidden t goal names name → GoalReply t goal names 2 (fact_text name)
   -- the goal is derived in the kernel from no facts but the named ones
-  proved : (g : SmallGoal) → AllVisible s goal names → slice_get s.goals goal ≡ Some g → HasProof s g (chosen names s g) →
-      GoalReply s goal names 0 (metis_text (chosen_names names s g))
+  proved : IsBuilt t goal → AllVisible t goal names → HasProof t goal (chosen names t goal) →
+      GoalReply t goal names 0 (metis_text (chosen_names names t goal))
   -- the search ended without a proof
-  saturated : AllVisible s goal names → GoalReply s goal names 1 saturated_text
-  spent : AllVisible s goal names → GoalReply s goal names 1 spent_text
+  saturated : IsBuilt t goal → AllVisible t goal names → GoalReply t goal names 1 saturated_text
+  spent : IsBuilt t goal → AllVisible t goal names → GoalReply t goal names 1 spent_text
+
+-- to a line over its theory
+pub data ReadReply (t : Theory) (l : Line) : ℕ → List ℕ → Type 0 where
+  no_goal : goal_place t l.goal ≡ None → ReadReply t l 4 (goal_text l.goal)
+  posed : (goal status : ℕ) (text : List ℕ) → goal_place t l.goal ≡ Some goal → GoalReply t goal l.facts status text → ReadReply t l status text
 
 -- to a line over the bytes of its theory
 pub data TheoryReply (bytes : List ℕ) (l : Line) : ℕ → List ℕ → Type 0 where
-  not_built : NotSmall bytes → TheoryReply bytes l 4 not_built_text
-  no_goal : (s : Small) → IsSmall bytes s → NoGoal s l.goal → TheoryReply bytes l 4 (goal_text l.goal)
-  posed : (s : Small) (goal status : ℕ) (text : List ℕ) → IsSmall bytes s → IsGoal s l.goal goal → GoalReply s goal l.facts status text →
-      TheoryReply bytes l status text
+  faulty : (at : ℕ) (k : TheoryKind) → Faulty bytes at k → TheoryReply bytes l 4 (theory_text at k)
+  read : (t : Theory) (status : ℕ) (text : List ℕ) → Reads bytes (declarations t) → ReadReply t l status text → TheoryReply bytes l status text
 
 -- a shelf: what it tells of its files, whether it is sure, and its count of faults before and after
 pub record Outside : Type 0 where
@@ -54,7 +62,8 @@ pub data LineReply (o : Outside) (l : Line) : ℕ → List ℕ → Type 0 where
 
 -- to words
 pub data Reply (words : List (List ℕ)) (o : Outside) : ℕ → List ℕ → Type 0 where
-  usage : line_of words ≡ None → Reply words o 2 usage_text
+  usage : line_of words ≡ None → NoGen words → Reply words o 2 usage_text
+  made : (n : ℕ) → IsGen words n → Reply words o 0 (generated n)
   asked : (l : Line) (status : ℕ) (text : List ℕ) → line_of words ≡ Some l → LineReply o l status text → Reply words o status text
   -- want of memory, at any time
   memory : Reply words o 6 memory_text

@@ -1,6 +1,10 @@
 -- The texts of `sledge`, each line with its end.
-use Rattle.std.specs.Prelude.{ℕ, List, ◌∷◌, ◌++◌, codes}
+use Rattle.std.specs.Prelude.{ℕ, ◌≡◌, List, ◌∷◌, ◌++◌, codes, decimal}
 use Rattle.std.specs.List.{flat_map}
+use Rattle.theory_terms.specs.declared.fault.TheoryKind.{TheoryKind}
+use Rattle.theory_terms.specs.declared.fault.TheoryKind.TheVariants as kind
+use Rattle.theory_terms.specs.declared.fault.TheoryFault.{TheoryFault}
+use Rattle.theory_terms.specs.declared.fault.TheoryFault.TheVariants as fault
 
 -- a text round a name
 abbrev pub around : List ℕ → List ℕ → List ℕ → List ℕ
@@ -18,8 +22,26 @@ file_text name = around (codes "fault: file ") name (codes "\n")
 abbrev pub long_file_text : List ℕ → List ℕ
 long_file_text name = around (codes "fault: file ") name (codes " too long\n")
 
-abbrev pub not_built_text : List ℕ
-not_built_text = codes "fault: theory not built\n"
+abbrev pub kind_text : TheoryKind → List ℕ
+kind_text kind.Token = codes "token"
+kind_text kind.Syntax = codes "syntax"
+kind_text kind.TooDeep = codes "too deep"
+kind_text kind.TooMany = codes "too many"
+kind_text kind.Repeated = codes "repeated"
+kind_text kind.Unknown = codes "unknown"
+kind_text kind.IllTyped = codes "ill typed"
+kind_text kind.NotBool = codes "not bool"
+
+abbrev pub theory_text : ℕ → TheoryKind → List ℕ
+theory_text at k = around (codes "fault: theory at ") (decimal at) (around (codes ": ") (kind_text k) (codes "\n"))
+
+-- the text of a fault; want of memory has another one
+abbrev pub SaysFault : TheoryFault → List ℕ → Type 0
+SaysFault (fault.At at k) text = text ≡ theory_text at k
+SaysFault fault.NoMemory text = ⊥
+
+abbrev pub not_built_text : List ℕ → List ℕ
+not_built_text name = around (codes "fault: ") name (codes " not built\n")
 
 abbrev pub goal_text : List ℕ → List ℕ
 goal_text name = around (codes "fault: goal ") name (codes "\n")

@@ -1,10 +1,10 @@
-ghost use Rattle.std.specs.Prelude.{◌≡◌, ◌<◌, ◌++◌, ◌^◌, [], ◌∷◌, if◌then◌else◌, filter, Some, slice_get, length, map, string_bytes, IfOk, OnOk, MatchOption};
+ghost use Rattle.std.specs.Prelude.{◌≡◌, ◌<◌, ◌++◌, ◌^◌, [], ◌∷◌, if◌then◌else◌, filter, length, map, string_bytes, IfOk, OnOk, MatchOption};
 ghost use Rattle.sledge_engine.specs.Choice.{is_named, places_from, AllVisible, IsFirstHidden};
 ghost use Rattle.sledge_engine.specs.Texts.{spaced};
 
-use crate::small_form::{Small, SmallFact, visible_named};
 use std::alloc::Global;
 use text_kit::{Bytes, NoMemory, Rows};
+use theory_reader::Theory;
 
 /// Whether a name is one of the words.
 fn is_among(words: &[String], name: &[u8]) -> bool
@@ -25,18 +25,18 @@ fn push_if(out: &mut Rows<u32>, asked: bool, number: u32) -> Result<(), NoMemory
     if asked { out.push(number) } else { Ok(()) }
 }
 
-/// The numbers of the facts that the words name.
+/// The places of the names that are among the words.
 pub(crate) fn choose(
     alloc: Global,
-    facts: &[SmallFact],
+    names: &[&[u8]],
     words: &[String],
 ) -> Result<Rows<u32>, NoMemory>
-    requires { length facts.now < 2 ^ 32 }
-    ensures { IfOk result (λ out. out ≡ places_from 0 (map string_bytes words.now) facts.now) }
+    requires { length names.now < 2 ^ 32 }
+    ensures { IfOk result (λ out. out ≡ places_from 0 (map string_bytes words.now) (map (λ n. n.now) names.now)) }
 {
     let mut out = Rows::begin(alloc);
-    for i in 0..facts.len() {
-        let asked = is_among(words, facts[i].name.as_slice());
+    for i in 0..names.len() {
+        let asked = is_among(words, names[i]);
         push_if(&mut out, asked, i as u32)?;
     }
     Ok(out)
@@ -54,29 +54,25 @@ fn put_if(out: &mut Bytes, asked: bool, name: &[u8]) -> Result<(), NoMemory>
     }
 }
 
-/// Appends a space and the name of each fact that the words name.
-pub(crate) fn put_names(
-    out: &mut Bytes,
-    facts: &[SmallFact],
-    words: &[String],
-) -> Result<(), NoMemory>
-    ensures { OnOk result (out.new ≡ out.old ++ spaced (map (λ f. f.name) (filter (λ f. is_named (map string_bytes words.now) f.name) facts.now))) }
+/// Appends a space and a name for each that is among the words.
+pub(crate) fn put_names(out: &mut Bytes, names: &[&[u8]], words: &[String]) -> Result<(), NoMemory>
+    ensures { OnOk result (out.new ≡ out.old ++ spaced (filter (is_named (map string_bytes words.now)) (map (λ n. n.now) names.now))) }
 {
-    for fact in facts {
-        let asked = is_among(words, fact.name.as_slice());
-        put_if(out, asked, fact.name.as_slice())?;
+    for name in names {
+        let asked = is_among(words, *name);
+        put_if(out, asked, *name)?;
     }
     Ok(())
 }
 
-/// The first word that isn't the name of a fact before the goal.
-pub(crate) fn first_hidden<'w>(small: &Small, goal: u32, words: &'w [String]) -> Option<&'w str>
-    requires { goal < length small.now.goals }
-    ensures { MatchOption result (AllVisible small.now goal (map string_bytes words.now)) (λ w. IsFirstHidden small.now goal (map string_bytes words.now) w.now) }
+/// The first word that isn't the name of a fact which the goal may be proved from.
+pub(crate) fn first_hidden<'w>(theory: &Theory, goal: u32, words: &'w [String]) -> Option<&'w str>
+    requires { goal < length theory.now.goals }
+    ensures { MatchOption result (AllVisible theory.now goal (map string_bytes words.now)) (λ w. IsFirstHidden theory.now goal (map string_bytes words.now) w.now) }
 {
     for i in 0..words.len() {
         let word = words[i].as_str();
-        match visible_named(small, goal, word.as_bytes()) {
+        match theory.visible_named(goal, word.as_bytes()) {
             Some(_) => {}
             None => return Some(word),
         }

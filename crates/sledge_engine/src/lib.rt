@@ -2,13 +2,10 @@
 #![tactic(auto)]
 
 mod choice;
-mod derivation;
-mod derive;
-mod ground;
-mod lift;
+mod commands;
+mod fetching;
 mod metis;
-mod prove;
-mod small_form;
+mod seen;
 mod texts;
 mod top;
 mod words;

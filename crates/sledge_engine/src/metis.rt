@@ -1,44 +1,42 @@
-ghost use Rattle.std.specs.Prelude.{◌≡◌, ◌<◌, ◌≤◌, ◌^◌, [], Some, None, slice_get, length, map, string_bytes, IfOk, MatchOption, IsTrue};
-ghost use Rattle.sledge_engine.specs.Environments.{FitsAll};
-ghost use Rattle.sledge_engine.specs.Replies.{GoalReply, LineReply, Outside, Reply, TheoryReply};
-ghost use Rattle.sledge_engine.specs.Fetches.{IsFetch, IsWithin, outside};
-ghost use Rattle.sledge_engine.specs.Choice.{chosen_names};
-ghost use Rattle.sledge_engine.specs.Texts.{around, metis_text};
+ghost use Rattle.std.specs.Prelude.{◌≡◌, ◌<◌, ◌^◌, [], length, IfOk, IsTrue, None, map, string_bytes, slice_get, Some};
+ghost use Rattle.theory_reader.specs.Visible.{IsEnvOf};
+ghost use Rattle.ground_metis.specs.Formulas.{is_clause as is_one};
+ghost use Rattle.sledge_engine.specs.Asked.{IsAsked, IsFound, said};
+ghost use Rattle.sledge_engine.specs.Built.{first_other as first_no_clause, IsBuilt};
+ghost use Rattle.sledge_engine.specs.Choice.{AllVisible, chosen_names};
+ghost use Rattle.sledge_engine.specs.Replies.{GoalReply, ReadReply, TheoryReply};
 ghost use Rattle.sledge_engine.specs.Shown.{line_shown};
+ghost use Rattle.sledge_engine.specs.Texts.{metis_text};
 
-use crate::choice::{first_hidden, put_names};
-use crate::prove::{Outcome, prove};
-use crate::small_form::{Small, SmallFault, SmallGoal, goal_named, read_small};
-use crate::texts::put_around;
-use crate::words::{Line, read_line};
-use race_outside::{FetchFault, Shelf};
+use crate::choice::{choose, first_hidden, put_names};
+use crate::seen::{clauses_of, first_other, name_at, seen_names};
+use crate::texts::{put_fault, put_refusal};
+use crate::words::Line;
+use ground_metis::{Lit, Outcome, is_clause, prove, read_clause};
+use hol_terms::Env;
 use std::alloc::Global;
-use text_kit::{Bytes, NoMemory};
+use text_kit::{Bytes, NoMemory, Rows};
+use theory_reader::{Theory, read};
 
-/// The greatest number of bytes of a theory file.
-const MAX_THEORY: u64 = 16_777_216;
-
-/// What a fetch of a theory file gives.
-#[derive(Drop)]
-enum Fetch {
-    Whole(Bytes),
-    TooLong,
-    Failed,
+/// A goal of a theory with what it may be proved from, and the facts that are named.
+#[derive(Clone, Copy, Drop)]
+struct Asked<'a> {
+    theory: &'a Theory,
+    goal: u32,
+    env: &'a Env,
+    /// The names of the environment's facts, by their numbers.
+    names: &'a [&'a [u8]],
+    words: &'a [String],
 }
 
 /// Puts the report of a proof that was found.
-fn put_proved(
-    small: &Small,
-    goal: &SmallGoal,
-    words: &[String],
-    text: &mut Bytes,
-) -> Result<u8, NoMemory>
-    requires before { goal.now.before ≤ length small.now.facts }
+fn put_proved(asked: &Asked, text: &mut Bytes) -> Result<u8, NoMemory>
+    requires asked { IsAsked asked.now }
     requires text { text.old ≡ [] }
-    ensures { IfOk result (λ status. (status ≡ 0) × (text.new ≡ metis_text (chosen_names (map string_bytes words.now) small.now goal.now))) }
+    ensures { IfOk result (λ status. (status ≡ 0) × (text.new ≡ metis_text (chosen_names (said asked.now) asked.now.theory.now asked.now.goal))) }
 {
     text.append(b"proof: by metis")?;
-    put_names(text, &small.facts.as_slice()[..goal.before as usize], words)?;
+    put_names(text, asked.names, asked.words)?;
     text.append(b"\n")?;
     Ok(0)
 }
@@ -52,139 +50,166 @@ fn put_unproved(text: &mut Bytes, piece: &[u8]) -> Result<u8, NoMemory>
     Ok(1)
 }
 
-/// Puts a refusal round a name.
-fn put_refusal(
-    text: &mut Bytes,
-    status: u8,
-    before: &[u8],
-    name: &[u8],
-    after: &[u8],
-) -> Result<u8, NoMemory>
-    requires { text.old ≡ [] }
-    ensures { IfOk result (λ given. (given ≡ status) × (text.new ≡ around before.now name.now after.now)) }
+/// Searches for a proof from the named facts.
+fn search(alloc: Global, asked: &Asked, goal: &[Lit]) -> Result<Outcome, NoMemory>
+    requires asked { IsAsked asked.now }
+    ensures { IfOk result (IsFound asked.now) }
 {
-    put_around(text, before, name, after)?;
-    Ok(status)
+    let clauses = clauses_of(alloc, asked.env.facts.as_slice())?;
+    let named = choose(alloc, asked.names, asked.words)?;
+    prove(alloc, asked.env, clauses.as_slice(), named.as_slice(), goal)
 }
 
-/// Answers a goal of a theory: puts the text and gives the status.
-fn answer_goal(
-    alloc: Global,
-    small: &Small,
-    goal: u32,
-    words: &[String],
-    text: &mut Bytes,
-) -> Result<u8, NoMemory>
-    requires goal { goal < length small.now.goals }
-    requires fits { FitsAll small.now }
+/// Reports how the search ended.
+fn report(asked: &Asked, found: &Outcome, text: &mut Bytes) -> Result<u8, NoMemory>
+    requires asked { IsAsked asked.now }
+    requires built { IsBuilt asked.now.theory.now asked.now.goal }
+    requires visible { AllVisible asked.now.theory.now asked.now.goal (said asked.now) }
+    requires found { IsFound asked.now found.now }
     requires text { text.old ≡ [] }
-    ensures { IfOk result (λ status. GoalReply small.now goal (map string_bytes words.now) status text.new) }
+    ensures { IfOk result (λ status. GoalReply asked.now.theory.now asked.now.goal (said asked.now) status text.new) }
 {
-    if let Some(name) = first_hidden(small, goal, words) {
-        return put_refusal(text, 2, b"fault: fact ", name.as_bytes(), b"\n");
-    }
-    let posed = small.goals.at(goal as usize);
-    match prove(alloc, small, posed, words)? {
-        Outcome::Proved => put_proved(small, posed, words, text),
+    match found {
+        Outcome::Proved(_) => put_proved(asked, text),
         Outcome::Saturated => put_unproved(text, b"proof: not found (saturated)\n"),
         Outcome::Spent => put_unproved(text, b"proof: not found (spent)\n"),
     }
 }
 
-/// Answers a line over the bytes of its theory.
-fn answer_theory(alloc: Global, bytes: &[u8], line: Line, text: &mut Bytes) -> Result<u8, NoMemory>
-    requires { text.old ≡ [] }
-    ensures { IfOk result (λ status. TheoryReply bytes.now (line_shown line.entry) status text.new) }
+/// Answers where all is built and each named fact is visible.
+fn answer_visible(
+    alloc: Global,
+    asked: &Asked,
+    goal: &[Lit],
+    text: &mut Bytes,
+) -> Result<u8, NoMemory>
+    requires asked { IsAsked asked.now }
+    requires built { IsBuilt asked.now.theory.now asked.now.goal }
+    requires visible { AllVisible asked.now.theory.now asked.now.goal (said asked.now) }
+    requires text { text.old ≡ [] }
+    ensures { IfOk result (λ status. GoalReply asked.now.theory.now asked.now.goal (said asked.now) status text.new) }
 {
-    let small = match read_small(alloc, bytes) {
-        Ok(small) => small,
-        Err(SmallFault::NotBuilt) => return put_refusal(
+    let found = search(alloc, asked, goal)?;
+    report(asked, &found, text)
+}
+
+/// Answers where all is built.
+fn answer_built(
+    alloc: Global,
+    asked: &Asked,
+    goal: &[Lit],
+    text: &mut Bytes,
+) -> Result<u8, NoMemory>
+    requires asked { IsAsked asked.now }
+    requires built { IsBuilt asked.now.theory.now asked.now.goal }
+    requires text { text.old ≡ [] }
+    ensures { IfOk result (λ status. GoalReply asked.now.theory.now asked.now.goal (said asked.now) status text.new) }
+{
+    match first_hidden(asked.theory, asked.goal, asked.words) {
+        Some(name) => put_refusal(text, 2, b"fault: fact ", name.as_bytes(), b"\n"),
+        None => answer_visible(alloc, asked, goal, text),
+    }
+}
+
+/// Answers where the facts are clauses.
+fn answer_clauses(alloc: Global, asked: &Asked, text: &mut Bytes) -> Result<u8, NoMemory>
+    requires asked { IsAsked asked.now }
+    requires facts { first_no_clause asked.now.env.now.facts ≡ None }
+    requires text { text.old ≡ [] }
+    ensures { IfOk result (λ status. GoalReply asked.now.theory.now asked.now.goal (said asked.now) status text.new) }
+{
+    match read_clause(alloc, &asked.env.goal)? {
+        Some(goal) => answer_built(alloc, asked, goal.as_slice(), text),
+        None => {
+            let name = asked.theory.goals.at(asked.goal as usize).name.as_slice();
+            put_refusal(text, 4, b"fault: ", name, b" not built\n")
+        }
+    }
+}
+
+/// Answers a goal over its environment and the names of its facts.
+fn answer_asked(alloc: Global, asked: &Asked, text: &mut Bytes) -> Result<u8, NoMemory>
+    requires asked { IsAsked asked.now }
+    requires text { text.old ≡ [] }
+    ensures { IfOk result (λ status. GoalReply asked.now.theory.now asked.now.goal (said asked.now) status text.new) }
+{
+    match first_other(asked.env.facts.as_slice()) {
+        Some(k) => put_refusal(
             text,
             4,
-            b"fault: theory not built\n",
-            b"",
-            b"",
+            b"fault: ",
+            name_at(asked.names, k),
+            b" not built\n",
         ),
-        Err(SmallFault::NoMemory) => return Err(NoMemory),
-    };
-    match goal_named(&small, line.goal.as_bytes()) {
-        None => put_refusal(text, 4, b"fault: goal ", line.goal.as_bytes(), b"\n"),
-        Some(goal) => answer_goal(alloc, &small, goal, line.facts, text),
+        None => answer_clauses(alloc, asked, text),
     }
 }
 
-/// Fetches a theory file.
-fn fetch_theory<H: Shelf>(alloc: Global, name: &str, shelf: &mut H) -> Result<Fetch, NoMemory>
-    ensures { IfOk result (IsFetch (outside (H.held shelf.old) (H.sure shelf.old) (H.faults shelf.old) (H.faults shelf.new)) name.now) }
-{
-    let mut bytes = Bytes::begin(alloc);
-    match shelf.fetch(name, MAX_THEORY, &mut bytes) {
-        Ok(()) => Ok(within(bytes)),
-        Err(FetchFault::Failed) => Ok(Fetch::Failed),
-        Err(FetchFault::NoMemory) => Err(NoMemory),
-    }
-}
-
-/// The bytes of a theory file, where they are within the limit.
-fn within(bytes: Bytes) -> Fetch
-    ensures { IsWithin bytes result }
-{
-    if bytes.len() > MAX_THEORY as usize {
-        Fetch::TooLong
-    } else {
-        Fetch::Whole(bytes)
-    }
-}
-
-/// Answers a line over what was fetched.
-fn answer_fetched(
+/// Answers a goal over its environment.
+fn answer_env(
     alloc: Global,
-    line: Line,
-    fetched: Fetch,
-    text: &mut Bytes,
-) -> Result<u8, NoMemory>
-    requires { text.old ≡ [] }
-    ensures { IfOk result (λ status. (o : Outside) → IsFetch o line.entry.theory.now fetched → LineReply o (line_shown line.entry) status text.new) }
-{
-    match fetched {
-        Fetch::Whole(bytes) => answer_theory(alloc, bytes.as_slice(), line, text),
-        Fetch::TooLong => put_refusal(
-            text,
-            3,
-            b"fault: file ",
-            line.theory.as_bytes(),
-            b" too long\n",
-        ),
-        Fetch::Failed => put_refusal(text, 3, b"fault: file ", line.theory.as_bytes(), b"\n"),
-    }
-}
-
-/// Answers a line: fetches the theory first.
-fn answer_line<H: Shelf>(
-    alloc: Global,
-    line: Line,
-    shelf: &mut H,
-    text: &mut Bytes,
-) -> Result<u8, NoMemory>
-    requires { text.old ≡ [] }
-    ensures { IfOk result (λ status. LineReply (outside (H.held shelf.old) (H.sure shelf.old) (H.faults shelf.old) (H.faults shelf.new)) (line_shown line.entry) status text.new) }
-{
-    let fetched = fetch_theory(alloc, line.theory, shelf)?;
-    answer_fetched(alloc, line, fetched, text)
-}
-
-/// Answers words: puts the text and gives the status.
-pub(crate) fn answer_words<H: Shelf>(
-    alloc: Global,
+    theory: &Theory,
+    goal: u32,
+    env: &Env,
     words: &[String],
-    shelf: &mut H,
     text: &mut Bytes,
 ) -> Result<u8, NoMemory>
-    requires { text.old ≡ [] }
-    ensures { IfOk result (λ status. Reply (map string_bytes words.now) (outside (H.held shelf.old) (H.sure shelf.old) (H.faults shelf.old) (H.faults shelf.new)) status text.new) }
+    requires goal { goal < length theory.now.goals }
+    requires env { IsEnvOf theory.now goal env.now }
+    requires text { text.old ≡ [] }
+    ensures { IfOk result (λ status. GoalReply theory.now goal (map string_bytes words.now) status text.new) }
 {
-    match read_line(words) {
-        Some(line) => answer_line(alloc, line, shelf, text),
-        None => put_refusal(text, 2, b"fault: usage\n", b"", b""),
+    let names = seen_names(alloc, theory, goal)?;
+    let asked = Asked {
+        theory,
+        goal,
+        env,
+        names: names.as_slice(),
+        words,
+    };
+    answer_asked(alloc, &asked, text)
+}
+
+/// Answers a goal of a theory: puts the text and gives the status.
+fn answer_goal(
+    alloc: Global,
+    theory: &Theory,
+    goal: u32,
+    words: &[String],
+    text: &mut Bytes,
+) -> Result<u8, NoMemory>
+    requires goal { goal < length theory.now.goals }
+    requires text { text.old ≡ [] }
+    ensures { IfOk result (λ status. GoalReply theory.now goal (map string_bytes words.now) status text.new) }
+{
+    let env = theory.env(alloc, goal)?;
+    answer_env(alloc, theory, goal, &env, words, text)
+}
+
+/// Answers a line over its theory.
+fn answer_read(alloc: Global, theory: &Theory, line: Line, text: &mut Bytes) -> Result<u8, NoMemory>
+    requires { text.old ≡ [] }
+    ensures { IfOk result (λ status. ReadReply theory.now (line_shown line.entry) status text.new) }
+{
+    match theory.goal_named(line.goal.as_bytes()) {
+        None => put_refusal(text, 4, b"fault: goal ", line.goal.as_bytes(), b"\n"),
+        Some(goal) => answer_goal(alloc, theory, goal, line.facts, text),
+    }
+}
+
+/// Answers a line over the bytes of its theory.
+pub(crate) fn answer_theory(
+    alloc: Global,
+    bytes: &[u8],
+    line: Line,
+    text: &mut Bytes,
+) -> Result<u8, NoMemory>
+    requires few { length bytes.now < 2 ^ 32 }
+    requires text { text.old ≡ [] }
+    ensures { IfOk result (λ status. TheoryReply bytes.now (line_shown line.entry) status text.new) }
+{
+    match read(alloc, bytes) {
+        Ok(theory) => answer_read(alloc, &theory, line, text),
+        Err(fault) => put_fault(text, fault),
     }
 }

@@ -32,6 +32,7 @@ fn shelf(alloc: Global, theory: &[u8]) -> Result<SureShelf, NoMemory> {
 }
 
 /// Whether this line is answered with this status and this text.
+#[tactic(none)]
 fn says(
     alloc: Global,
     theory: &[u8],
@@ -47,6 +48,7 @@ fn says(
 }
 
 /// The status where the sink fails at its first put.
+#[tactic(none)]
 fn status_over_failing_sink(alloc: Global) -> Result<u8, NoMemory> {
     let words = words(alloc, &["metis", "T", "g", "f1", "f2"])?;
     let mut shelf = shelf(alloc, IMPLIED)?;
@@ -56,66 +58,129 @@ fn status_over_failing_sink(alloc: Global) -> Result<u8, NoMemory> {
     Ok(answer(alloc, words.as_slice(), &mut shelf, &mut out))
 }
 
-fn proves(alloc: Global) -> Result<bool, NoMemory> {
-    let by_cases = b"const p : bool; goal g : p | ~p;";
-    let from_contradiction =
-        b"const p : bool; const q : bool; fact f1 : p; fact f2 : ~p; goal g : q;";
-    Ok(
-        says(
-            alloc,
-            IMPLIED,
-            &["metis", "T", "g", "f1", "f2"],
-            0,
-            b"proof: by metis f1 f2\n",
-        )? && says(
-            alloc,
-            by_cases,
-            &["metis", "T", "g"],
-            0,
-            b"proof: by metis\n",
-        )? && says(
-            alloc,
-            from_contradiction,
-            &["metis", "T", "g", "f1", "f2"],
-            0,
-            b"proof: by metis f1 f2\n",
-        )?,
-    )
+/// A theory, the words behind `metis T`, and what is answered.
+#[derive(Clone, Copy, Drop)]
+struct Case<'a> {
+    theory: &'a [u8],
+    line: &'a [&'a str],
+    status: u8,
+    text: &'a [u8],
 }
 
-fn refuses(alloc: Global) -> Result<bool, NoMemory> {
-    let alone = b"const p : bool; goal g : p;";
-    Ok(
-        says(
-            alloc,
-            alone,
-            &["metis", "T", "g"],
-            1,
-            b"proof: not found (saturated)\n",
-        )? && says(alloc, b"", &["metis", "T", "g"], 4, b"fault: goal g\n")?
-            && says(
-                alloc,
-                IMPLIED,
-                &["metis", "TB", "g"],
-                3,
-                b"fault: file TB\n",
-            )?
-            && says(alloc, IMPLIED, &["metis", "T"], 2, b"fault: usage\n")?
-            && says(
-                alloc,
-                IMPLIED,
-                &["metis", "T", "g", "f3"],
-                2,
-                b"fault: fact f3\n",
-            )?,
-    )
+const CASES: [Case; 16] = [
+    Case {
+        theory: IMPLIED,
+        line: &["metis", "T", "g", "f1", "f2"],
+        status: 0,
+        text: b"proof: by metis f1 f2\n",
+    },
+    Case {
+        theory: b"const p : bool; goal g : p | ~p;",
+        line: &["metis", "T", "g"],
+        status: 0,
+        text: b"proof: by metis\n",
+    },
+    Case {
+        theory: b"const p : bool; const q : bool; fact f1 : p; fact f2 : ~p; goal g : q;",
+        line: &["metis", "T", "g", "f1", "f2"],
+        status: 0,
+        text: b"proof: by metis f1 f2\n",
+    },
+    Case {
+        theory: b"const p : bool; const q : bool; fact f : ~p | q; goal g : q assume h : p; goal k : q;",
+        line: &["metis", "T", "g", "h", "f"],
+        status: 0,
+        text: b"proof: by metis f h\n",
+    },
+    Case {
+        theory: b"const p : bool; const q : bool; fact f : ~p | q; goal g : q assume h : p; goal k : q;",
+        line: &["metis", "T", "k", "f", "h"],
+        status: 2,
+        text: b"fault: fact h\n",
+    },
+    Case {
+        theory: b"const p : bool; goal g : p;",
+        line: &["metis", "T", "g"],
+        status: 1,
+        text: b"proof: not found (saturated)\n",
+    },
+    Case {
+        theory: b"",
+        line: &["metis", "T", "g"],
+        status: 4,
+        text: b"fault: goal g\n",
+    },
+    Case {
+        theory: b"const p : bool goal g : p;",
+        line: &["metis", "T", "g"],
+        status: 4,
+        text: b"fault: theory at 15: syntax\n",
+    },
+    Case {
+        theory: b"type n; const a : n; goal g : a & a;",
+        line: &["metis", "T", "g"],
+        status: 4,
+        text: b"fault: theory at 30: ill typed\n",
+    },
+    Case {
+        theory: b"const p : bool; fact f : p & p; goal g : p;",
+        line: &["metis", "T", "g"],
+        status: 4,
+        text: b"fault: f not built\n",
+    },
+    Case {
+        theory: b"const p : bool; fact f : p; goal g : p & p;",
+        line: &["metis", "T", "g", "f"],
+        status: 4,
+        text: b"fault: g not built\n",
+    },
+    Case {
+        theory: IMPLIED,
+        line: &["metis", "TB", "g"],
+        status: 3,
+        text: b"fault: file TB\n",
+    },
+    Case {
+        theory: IMPLIED,
+        line: &["metis", "T"],
+        status: 2,
+        text: b"fault: usage\n",
+    },
+    Case {
+        theory: IMPLIED,
+        line: &["metis", "T", "g", "f3"],
+        status: 2,
+        text: b"fault: fact f3\n",
+    },
+    Case {
+        theory: b"",
+        line: &["gen", "2"],
+        status: 0,
+        text: b"const c0 : bool;\nconst c1 : bool;\nfact f0 : c0;\nfact f1 : c0 ==> c1;\ngoal g : c1;\n",
+    },
+    Case {
+        theory: b"",
+        line: &["gen", "02"],
+        status: 2,
+        text: b"fault: usage\n",
+    },
+];
+
+/// Whether each line is answered as the table says.
+#[tactic(none)]
+fn all_say(alloc: Global, cases: &[Case]) -> Result<bool, NoMemory> {
+    for case in cases {
+        if !says(alloc, case.theory, case.line, case.status, case.text)? {
+            return Ok(false);
+        }
+    }
+    Ok(true)
 }
 
 #[test]
 fn answers(rt: HostRuntime) -> Result<(), Fail> {
     let alloc = rt.alloc();
-    assert!(rt; proves(alloc)?);
-    assert!(rt; refuses(alloc)?);
+    assert!(rt; all_say(alloc, &CASES)?);
     assert_eq!(rt; status_over_failing_sink(alloc)?, 5);
     Ok(())
 }

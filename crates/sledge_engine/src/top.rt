@@ -3,7 +3,7 @@ ghost use Rattle.sledge_engine.specs.Fetches.{outside};
 ghost use Rattle.sledge_engine.specs.Replies.{Answered};
 ghost use Rattle.sledge_engine.specs.Sinking.{IsPut, told_by};
 
-use crate::metis::answer_words;
+use crate::commands::answer_words;
 use race_outside::{Shelf, Sink};
 use std::alloc::Global;
 use text_kit::Bytes;

@@ -1,6 +1,8 @@
-ghost use Rattle.std.specs.Prelude.{◌≡◌, Some, None, map, MatchOption, string_bytes};
+ghost use Rattle.std.specs.Prelude.{◌≡◌, ◌↔◌, ◌≤◌, ◌<◌, ◌^◌, ℕ, Some, None, decimal, map, IfSome, IsTrue, MatchOption, string_bytes};
 ghost use Rattle.std.specs.List.{list_all};
-ghost use Rattle.sledge_engine.specs.Words.{line_of, is_plain};
+ghost use Rattle.sledge_engine.specs.Words.{line_of, is_plain, IsGen};
+
+use itoa::Buffer;
 
 /// What `metis` is asked, lent from the words.
 #[derive(Clone, Copy, Drop)]
@@ -46,6 +48,52 @@ pub(crate) fn read_line(words: &[String]) -> Option<Line<'_>>
                     goal: goal.as_str(),
                     facts,
                 })
+            } else {
+                None
+            }
+        }
+        _ => None,
+    }
+}
+
+fn is_written(word: &str, n: u32) -> bool
+    ensures { IsTrue result ↔ (word.now ≡ decimal n) }
+{
+    let mut buffer = Buffer::new();
+    buffer.format(n) == word
+}
+
+/// The number that a word writes, in digits without a leading zero.
+fn number(word: &str) -> Option<u32>
+    ensures is { IfSome result (λ n. word.now ≡ decimal n) }
+    ensures only { (n : ℕ) → n < 2 ^ 32 → word.now ≡ decimal n → result ≡ Some n }
+{
+    match word.parse::<u32>() {
+        Ok(n) => if is_written(word, n) { Some(n) } else { None },
+        Err(_) => None,
+    }
+}
+
+/// The number of facts, from 1 to 20,000, that a word asks for.
+fn fact_count(word: &str) -> Option<u32>
+    ensures is { IfSome result (λ n. (1 ≤ n) × (n ≤ 20000) × (word.now ≡ decimal n)) }
+    ensures only { (n : ℕ) → 1 ≤ n → n ≤ 20000 → word.now ≡ decimal n → result ≡ Some n }
+{
+    match number(word) {
+        Some(n) => if 1 <= n && n <= 20_000 { Some(n) } else { None },
+        None => None,
+    }
+}
+
+/// The number of facts that `gen` is asked for, where the words are so.
+pub(crate) fn read_gen(words: &[String]) -> Option<u32>
+    ensures is { IfSome result (IsGen (map string_bytes words.now)) }
+    ensures only { (n : ℕ) → IsGen (map string_bytes words.now) n → result ≡ Some n }
+{
+    match words {
+        [command, count] => {
+            if command.as_str() == "gen" {
+                fact_count(count.as_str())
             } else {
                 None
             }

@@ -3,4 +3,5 @@ use Rattle.sledge_engine.specs.Choice.{places_from}
 use Rattle.sledge_engine.proofs.choice.choose.Given as goal
 
 abbrev pub invariant-loop-i : goal.invariant-loop-i
-invariant-loop-i l = l.out ++ places_from l.i (map string_bytes l.words) (drop l.i l.facts) ≡ places_from 0 (map string_bytes l.words) l.facts
+invariant-loop-i l =
+    l.out ++ places_from l.i (map string_bytes l.words) (map (λ n. n.now) (drop l.i l.names)) ≡ places_from 0 (map string_bytes l.words) (map (λ n. n.now) l.names)

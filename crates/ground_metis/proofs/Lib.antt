@@ -1,0 +1,4 @@
+mod Places
+mod Clauses
+mod Derivations
+mod Leaves

@@ -1,0 +1,5 @@
+pub mod Ground
+pub mod Searches
+pub mod Formulas
+pub mod Splits
+pub mod Derived

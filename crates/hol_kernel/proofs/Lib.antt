@@ -1,0 +1,9 @@
+pub mod Following
+pub mod Places
+pub mod Popping
+pub mod Growing
+pub mod Attempted
+pub mod Applying
+pub mod Ending
+pub mod Walking
+pub mod Making

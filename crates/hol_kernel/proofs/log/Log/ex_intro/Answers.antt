@@ -1,0 +1,35 @@
+use Rattle.kernel_rules.specs.declared.step.Step.TheVariants as step
+use Rattle.hol_kernel.proofs.Growing.{extends_refl}
+use Rattle.hol_kernel.proofs.Applying.{ex_intro_made}
+use Rattle.hol_kernel.proofs.Making.{some_at, made_gives, made_at, err_free, err_made}
+use Rattle.hol_kernel.proofs.log.Log.ex_intro.Goals as goal
+
+pub make-requires : goal.make-requires
+make-requires c = some_at c.args.self.now.env c.args.self.now.sequents _ _ _ (λ i. step.ExIntro (c.in_ok-property.ensures i) (c.in_ok-value.ensures i) c.args.a) (ex_intro_made c.args.self.now.env c.args.self.now.sequents c.args.f.now c.args.t.now c.args.a c.requires.t c.requires.f c.requires.a c.requires.fits)
+
+pub returns-in_err-value-clause-kept : goal.returns-in_err-value-clause-kept
+returns-in_err-value-clause-kept c = extends_refl c.args.self.now
+
+pub returns-in_err-value-clause-gives : goal.returns-in_err-value-clause-gives
+returns-in_err-value-clause-gives c = err_free c.from_residual.result _ c.from_residual.ensures.0
+
+pub returns-in_err-value-clause-made : goal.returns-in_err-value-clause-made
+returns-in_err-value-clause-made c = err_made c.args.self.now _ c.from_residual.result c.from_residual.ensures.0
+
+pub returns-in_err-property-clause-kept : goal.returns-in_err-property-clause-kept
+returns-in_err-property-clause-kept c = extends_refl c.args.self.now
+
+pub returns-in_err-property-clause-gives : goal.returns-in_err-property-clause-gives
+returns-in_err-property-clause-gives c = err_free c.from_residual-in_err-property.result _ c.from_residual-in_err-property.ensures.0
+
+pub returns-in_err-property-clause-made : goal.returns-in_err-property-clause-made
+returns-in_err-property-clause-made c = err_made c.args.self.now _ c.from_residual-in_err-property.result c.from_residual-in_err-property.ensures.0
+
+pub returns-clause-kept : goal.returns-clause-kept
+returns-clause-kept c = c.make.ensures.kept
+
+pub returns-clause-made : goal.returns-clause-made
+returns-clause-made c = made_at c.args.self.now c.make.new.self c.make.result _ _ (λ i. step.ExIntro (c.in_ok-property.ensures i) (c.in_ok-value.ensures i) c.args.a) c.make.ensures.made
+
+pub returns-clause-gives : goal.returns-clause-gives
+returns-clause-gives c = made_gives c.args.self.now c.make.new.self c.make.result _ _ (ex_intro_made c.args.self.now.env c.args.self.now.sequents c.args.f.now c.args.t.now c.args.a c.requires.t c.requires.f c.requires.a c.requires.fits) (made_at c.args.self.now c.make.new.self c.make.result _ _ (λ i. step.ExIntro (c.in_ok-property.ensures i) (c.in_ok-value.ensures i) c.args.a) c.make.ensures.made)

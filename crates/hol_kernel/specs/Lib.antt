@@ -1,0 +1,4 @@
+pub mod Logs
+pub mod Growth
+pub mod Checking
+pub mod Conditions

@@ -1,0 +1,20 @@
+use Rattle.std.proofs.Common.{◌∙◌, subst, sym}
+use Rattle.sledge_engine.specs.Asked.{said}
+use Rattle.sledge_engine.specs.Replies.{GoalReply, not_built}
+use Rattle.sledge_engine.specs.Texts.{not_built_text}
+use Rattle.sledge_engine.proofs.Asking.{built_by, unbuilt_goal, has, lacks}
+use Rattle.sledge_engine.proofs.Replying.{reply_with}
+use Rattle.sledge_engine.proofs.metis.answer_clauses.Goals as goal
+
+pub answer_built-requires-clause-built : goal.answer_built-requires-clause-built
+answer_built-requires-clause-built c =
+    built_by c.args.asked.now c.requires.asked c.requires.facts (has _ c.in-Some.goal (sym c.in_ok-goal.ensures.found ∙ c.in-Some.is))
+
+pub returns-in-None : goal.returns-in-None
+returns-in-None c =
+    let a = c.args.asked.now in
+    let t = a.theory.now in
+    let g = c.at.result.now in
+    let name = unbuilt_goal a c.requires.asked g c.requires.facts c.at.ensures (lacks _ (sym c.in_ok-goal.ensures.found ∙ c.in-None.is)) in
+    reply_with (GoalReply t a.goal (said a)) c.put_refusal.result 4 (not_built_text c.as_slice-name.result.now) c.put_refusal.new.text
+    (subst (λ n. GoalReply t a.goal (said a) 4 (not_built_text n)) (sym c.as_slice-name.ensures) (not_built g.name name)) c.put_refusal.ensures

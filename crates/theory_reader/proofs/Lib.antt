@@ -1,0 +1,12 @@
+mod OneAnswer
+mod Faults
+mod Lookups
+mod Passes
+mod Envs
+mod Assumed
+mod Grows
+mod Differ
+mod Named
+mod Kept
+mod Sound
+mod Answered

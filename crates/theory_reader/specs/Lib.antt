@@ -1,0 +1,8 @@
+pub mod Names
+pub mod Sound
+pub mod Declarations
+pub mod Visible
+pub mod Toks
+pub mod Declaring
+pub mod Reading
+pub mod Stages

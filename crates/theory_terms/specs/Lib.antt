@@ -1,0 +1,8 @@
+pub mod Answers
+pub mod Words
+pub mod Signature
+pub mod Types
+pub mod Meanings
+pub mod Laws
+pub mod Scopes
+pub mod Parts

@@ -1,0 +1,26 @@
+//! Names, types and terms of a theory file: from syntax trees to typed terms, or the first fault with its place.
+#![tactic(auto)]
+
+mod decl;
+mod fault;
+mod known;
+mod laws;
+mod making;
+mod names;
+mod part;
+mod scope;
+mod term_reader;
+mod type_reader;
+mod word;
+
+pub use decl::Decl;
+pub use fault::{TheoryFault, TheoryKind};
+pub use known::Known;
+pub use laws::{sentences_are_sentences, types_fit};
+pub use names::Names;
+pub use term_reader::read_sentence;
+pub use type_reader::read_type;
+pub use word::word_at;
+
+#[cfg(test)]
+mod tests;

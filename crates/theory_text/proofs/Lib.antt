@@ -1,0 +1,7 @@
+mod Builds
+mod Inverted
+mod Rows
+mod Again
+mod Lexed
+mod ReadAgain
+mod Laying

@@ -1,0 +1,11 @@
+pub mod Lines
+pub mod Tokens
+pub mod Statements
+pub mod Sources
+pub mod Reached
+pub mod Used
+pub mod Machine
+pub mod Read
+pub mod Leaves
+pub mod Table
+pub mod Refusals
