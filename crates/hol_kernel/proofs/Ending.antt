@@ -1,5 +1,5 @@
 -- The last theorem.
-use Rattle.std.proofs.Common.{◌≡◌, ◌↔◌, ℕ, ◌-◌, List, [], ◌∷◌, length, Some, None, Bool, false, IsTrue, refl, sym, ◌∙◌, ap, subst, arith}
+use Rattle.std.proofs.Common.{◌≡◌, ◌↔◌, ℕ, ◌-◌, List, [], ◌∷◌, length, Some, Bool, false, IsTrue, sym, ◌∙◌, ap, subst, arith}
 use Rattle.std.specs.Prelude.{Option, slice_get}
 use Rattle.std.specs.FinSet as set
 use Rattle.hol_terms.specs.declared.env.Env.{Env}

@@ -1,5 +1,5 @@
 -- A log grows.
-use Rattle.std.proofs.Common.{◌≡◌, ℕ, ◌+◌, ◌<◌, ◌≤◌, List, [], ◌∷◌, ◌++◌, length, Some, refl, sym, ◌∙◌, ap, subst, append_assoc, append-nil, length-append, arith}
+use Rattle.std.proofs.Common.{◌≡◌, ℕ, List, [], ◌∷◌, ◌++◌, length, Some, refl, sym, ◌∙◌, ap, subst, append_assoc, append-nil, length-append, arith}
 use Rattle.kernel_rules.specs.declared.step.Step.{Step}
 use Rattle.kernel_rules.specs.declared.sequent.Sequent.{Sequent}
 use Rattle.kernel_rules.specs.Derivations.{derived, sequent}

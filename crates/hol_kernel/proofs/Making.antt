@@ -1,5 +1,5 @@
 -- What a rule's call gives.
-use Rattle.std.proofs.Common.{◌≡◌, List, rules, Ok, Err, Some, None, refl, sym, ◌∙◌, ap, subst}
+use Rattle.std.proofs.Common.{◌≡◌, List, rules, Ok, Err, Some, None, refl, ◌∙◌, ap, subst}
 use Rattle.std.specs.Prelude.{Option, Result, IsSome, IsErr, IfOk}
 use Rattle.hol_terms.specs.declared.env.Env.{Env}
 use Rattle.kernel_rules.specs.declared.step.Step.{Step}

@@ -1,5 +1,5 @@
 -- Items of lists by their places.
-use Rattle.std.proofs.Common.{◌≡◌, ℕ, zero, suc, ◌+◌, ◌<◌, List, [], ◌∷◌, ◌++◌, length, take, slice_get, Some, None, unwrap_or, refl, sym, ap, arith}
+use Rattle.std.proofs.Common.{◌≡◌, ℕ, zero, suc, ◌<◌, List, [], ◌∷◌, ◌++◌, length, take, slice_get, Some, unwrap_or, refl, sym, ap, arith}
 use Rattle.std.specs.Prelude.{Option}
 use Rattle.std.specs.FinSet as set
 use Rattle.hol_terms.specs.declared.env.Env.{Env}

@@ -1,10 +1,7 @@
 -- A list of steps, gone through from its front.
-use Rattle.std.proofs.Common.{◌≡◌, ℕ, List, [], ◌∷◌, ◌++◌, length, take, slice_get, Ok, Err, Some, None, refl, sym, ◌∙◌, ap, subst, append_assoc, append-nil}
-use Rattle.std.specs.Prelude.{Option, Result}
+use Rattle.std.proofs.Common.{◌≡◌, ℕ, List, [], ◌∷◌, ◌++◌, length, take, slice_get, Err, Some, None, sym, ◌∙◌, ap, append_assoc, append-nil}
 use Rattle.hol_terms.specs.declared.env.Env.{Env}
 use Rattle.kernel_rules.specs.declared.step.Step.{Step}
-use Rattle.kernel_rules.specs.declared.step.ThmId.{ThmId}
-use Rattle.kernel_rules.specs.declared.sequent.Sequent.{Sequent}
 use Rattle.kernel_rules.specs.Derivations.{derived, sequent}
 use Rattle.hol_kernel.specs.declared.fault.StepFault.{StepFault}
 use Rattle.hol_kernel.specs.declared.fault.StepFault.TheVariants.{Refused, NoMemory}

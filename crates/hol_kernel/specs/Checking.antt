@@ -1,5 +1,5 @@
 -- Whole lists of steps.
-use Rattle.std.specs.Prelude.{◌≡◌, ℕ, List, take, slice_get, Option, Some, None, Result, Ok, Err}
+use Rattle.std.specs.Prelude.{◌≡◌, ℕ, List, take, slice_get, Some, None, Result, Ok, Err}
 use Rattle.hol_terms.specs.declared.env.Env.{Env}
 use Rattle.kernel_rules.specs.declared.step.Step.{Step}
 use Rattle.kernel_rules.specs.declared.sequent.Sequent.{Sequent}

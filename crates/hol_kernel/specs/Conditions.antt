@@ -1,9 +1,9 @@
 -- Where a rule may be used.
-use Rattle.std.specs.Prelude.{◌≡◌, ℕ, IsTrue, unwrap_or}
+use Rattle.std.specs.Prelude.{◌≡◌, IsTrue, unwrap_or}
 use Rattle.hol_terms.specs.declared.ty.Ty.{Ty}
 use Rattle.hol_terms.specs.declared.sig.Sig.{Sig}
 use Rattle.hol_terms.specs.declared.term.Term.{Term}
-use Rattle.hol_terms.specs.Types.{bool_ty, function_ty, ty_fits}
+use Rattle.hol_terms.specs.Types.{bool_ty, function_ty}
 use Rattle.hol_terms.specs.Typing.{type_of_term}
 use Rattle.kernel_rules.specs.Connectives.{imp, right_of}
 use Rattle.kernel_rules.specs.Rules.{is_given}

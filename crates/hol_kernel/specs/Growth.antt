@@ -1,12 +1,12 @@
 -- How a log grows.
-use Rattle.std.specs.Prelude.{◌≡◌, ℕ, ◌<◌, ◌≤◌, List, [], ◌∷◌, ◌++◌, length, Option, Some, None, Result, Ok, Err}
+use Rattle.std.specs.Prelude.{◌≡◌, ℕ, ◌<◌, ◌≤◌, List, [], ◌∷◌, ◌++◌, length, Some, None, Result, Ok, Err}
 use Rattle.kernel_rules.specs.declared.step.Step.{Step}
 use Rattle.kernel_rules.specs.declared.step.ThmId.{ThmId}
 use Rattle.kernel_rules.specs.declared.sequent.Sequent.{Sequent}
 use Rattle.kernel_rules.specs.Derivations.{sequent}
 use Rattle.hol_kernel.specs.declared.fault.StepFault.{StepFault}
 use Rattle.hol_kernel.specs.declared.fault.StepFault.TheVariants.{Refused, NoMemory}
-use Rattle.hol_kernel.specs.Logs.{Logged, seq_at, IsThm, thm}
+use Rattle.hol_kernel.specs.Logs.{Logged, seq_at, IsThm}
 
 -- earlier steps and theorems stay
 pub record Extends (old new : Logged) : Type 0 where

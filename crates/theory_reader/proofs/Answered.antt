@@ -1,5 +1,5 @@
 -- The result of a reading is the text's answer.
-use Rattle.std.proofs.Common.{◌≡◌, ℕ, List}
+use Rattle.std.proofs.Common.{ℕ, List}
 use Rattle.std.specs.Prelude.{Result, Ok, Err}
 use Rattle.theory_syntax.specs.declared.tree.Item.{Item}
 use Rattle.theory_terms.specs.declared.fault.TheoryFault.{TheoryFault}

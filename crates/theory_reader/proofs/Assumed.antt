@@ -1,10 +1,10 @@
 -- One step of the loop over a goal's assumptions.
-use Rattle.std.proofs.Common.{◌≡◌, ℕ, ◌+◌, ◌<◌, ◌∙◌, ap, sym, List, [], ◌∷◌, drop, length, get_or, Ok, Err, refl}
+use Rattle.std.proofs.Common.{◌≡◌, ℕ, ◌+◌, ◌<◌, ◌∙◌, ap, sym, List, [], ◌∷◌, drop, length, get_or}
 use Rattle.std.proofs.lemmas.List.{at_drop_more}
 use Rattle.theory_syntax.specs.declared.tree.Hyp.{Hyp}
 use Rattle.theory_terms.specs.declared.fault.TheoryFault.{TheoryFault}
 use Rattle.theory_terms.specs.declared.fault.TheoryFault.TheVariants as fault
-use Rattle.theory_terms.specs.Answers.{Answer, Good, Bad, and_then, Refused}
+use Rattle.theory_terms.specs.Answers.{Good, and_then, Refused}
 use Rattle.theory_reader.specs.declared.statement.Fact.{Fact}
 use Rattle.theory_reader.specs.Declarations.{Declarations}
 use Rattle.theory_reader.specs.Declaring.{assumption, assumptions}

@@ -1,14 +1,12 @@
 -- A sentence stays a sentence where more types and constants are declared.
-use Rattle.std.proofs.Common.{◌≡◌, ℕ, ◌≤◌, ◌<◌, ◌∙◌, Bool, true, false, ◌&&◌, if◌then◌else◌, nat_lt, IsTrue, List, [], ◌∷◌, slice_get, Some, None, ap, sym, subst, refl, arith}
+use Rattle.std.proofs.Common.{◌≡◌, ℕ, ◌≤◌, ◌<◌, ◌∙◌, Bool, true, false, if◌then◌else◌, IsTrue, List, [], ◌∷◌, slice_get, Some, None, sym, refl, arith}
 use Rattle.std.specs.Prelude.{Option}
 use Rattle.std.proofs.lemmas.Bool.{ltb-true, lt-ltb}
-use Rattle.hol_terms.specs.declared.ty.Ty.{Ty, roll-Ty, out-Ty}
-use Rattle.hol_terms.specs.declared.ty.Ty.TheOpen.{Ty-F}
+use Rattle.hol_terms.specs.declared.ty.Ty.{Ty}
 use Rattle.hol_terms.specs.declared.konst.Konst.{Konst}
 use Rattle.hol_terms.specs.declared.konst.Konst.TheVariants as konst
 use Rattle.hol_terms.specs.declared.sig.Sig.{Sig}
-use Rattle.hol_terms.specs.declared.term.Term.{Term, roll-Term}
-use Rattle.hol_terms.specs.declared.term.Term.TheOpen.{Term-F}
+use Rattle.hol_terms.specs.declared.term.Term.{Term}
 use Rattle.hol_terms.specs.Types.{ty_fits, bool_ty, function_ty}
 use Rattle.hol_terms.specs.Typing.{type_in, konst_type, applied, under, checked, fitting}
 use Rattle.hol_terms.specs.Formulas.{IsSentence}

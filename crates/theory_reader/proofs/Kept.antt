@@ -1,10 +1,9 @@
 -- What is declared stays sound, declaration by declaration.
-use Rattle.std.proofs.Common.{◌≡◌, ℕ, zero, suc, ◌+◌, ◌≤◌, ◌<◌, ◌∙◌, Bool, true, false, ◌&&◌, ◌||◌, nat_le, IsTrue, List, [], ◌∷◌, ◌++◌, length, take, map, slice_get, Some, None, ap, sym, subst, refl, arith, append_assoc}
-use Rattle.std.specs.Prelude.{Option, is_some}
+use Rattle.std.proofs.Common.{◌≡◌, ℕ, zero, suc, ◌+◌, ◌≤◌, ◌<◌, ◌∙◌, Bool, false, ◌&&◌, nat_le, IsTrue, List, [], ◌∷◌, ◌++◌, length, map, slice_get, Some, None, ap, sym, subst, refl, arith, append_assoc}
 use Rattle.std.specs.List.{list_all, list_any}
 use Rattle.std.specs.Str.{bytes_eq}
 use Rattle.std.proofs.Math.Seq.{take-length}
-use Rattle.std.proofs.lemmas.Bool.{le-leb, leb-true, leb-false, or_parts, or_from}
+use Rattle.std.proofs.lemmas.Bool.{le-leb, leb-true, or_from}
 use Rattle.std.proofs.lemmas.List.{length-append, map-append, take-append-le, append-nil}
 use Rattle.std.proofs.lemmas.List.Folds.{list_any-append}
 use Rattle.hol_terms.proofs.Both.{both_true, and_true}

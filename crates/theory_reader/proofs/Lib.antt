@@ -1,12 +1,12 @@
-mod OneAnswer
-mod Faults
-mod Lookups
-mod Passes
-mod Envs
-mod Assumed
-mod Grows
-mod Differ
-mod Named
-mod Kept
-mod Sound
-mod Answered
+pub mod OneAnswer
+pub mod Faults
+pub mod Lookups
+pub mod Passes
+pub mod Envs
+pub mod Assumed
+pub mod Grows
+pub mod Differ
+pub mod Named
+pub mod Kept
+pub mod Sound
+pub mod Answered

@@ -1,7 +1,7 @@
 -- What the declarations of a file make is sound.
-use Rattle.std.proofs.Common.{◌≡◌, ℕ, ◌+◌, ◌≤◌, ◌<◌, ◌∙◌, Bool, true, false, ◌&&◌, ◌||◌, nat_le, IsTrue, List, [], ◌∷◌, ◌++◌, length, Some, None, ap, sym, subst, refl, arith}
+use Rattle.std.proofs.Common.{◌≡◌, ℕ, ◌+◌, ◌<◌, Bool, true, false, ◌||◌, nat_le, IsTrue, List, [], ◌∷◌, ◌++◌, length, Some, None, subst, refl, arith}
 use Rattle.std.specs.Prelude.{Option, is_some}
-use Rattle.std.specs.List.{All, list_all}
+use Rattle.std.specs.List.{list_all}
 use Rattle.std.specs.Str.{bytes_eq}
 use Rattle.std.proofs.lemmas.Bool.{leb-false, or_parts}
 use Rattle.std.proofs.lemmas.List.Sums.{AllPass-from_list_all}
@@ -17,7 +17,7 @@ use Rattle.theory_syntax.specs.declared.tree.Item.{Item}
 use Rattle.theory_syntax.specs.declared.tree.Item.TheVariants as item
 use Rattle.theory_terms.specs.declared.fault.TheoryKind.{TheoryKind}
 use Rattle.theory_terms.specs.declared.fault.TheoryKind.TheVariants.{Repeated, TooMany}
-use Rattle.theory_terms.specs.Answers.{Answer, Good, Bad, and_then}
+use Rattle.theory_terms.specs.Answers.{Answer, Good, and_then}
 use Rattle.theory_terms.specs.Words.{word_at, place}
 use Rattle.theory_terms.specs.Signature.{sig_of, found}
 use Rattle.theory_terms.specs.Types.{type_of_tree}

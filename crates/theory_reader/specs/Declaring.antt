@@ -9,7 +9,6 @@ use Rattle.theory_syntax.specs.declared.tree.Tree.{Tree}
 use Rattle.theory_syntax.specs.declared.tree.TyTree.{TyTree}
 use Rattle.hol_terms.specs.declared.ty.Ty.{Ty}
 use Rattle.hol_terms.specs.declared.term.Term.{Term}
-use Rattle.theory_terms.specs.declared.decl.Decl.{Decl}
 use Rattle.theory_terms.specs.declared.fault.TheoryKind.{TheoryKind}
 use Rattle.theory_terms.specs.declared.fault.TheoryKind.TheVariants.{Repeated, TooMany}
 use Rattle.theory_terms.specs.Answers.{Answer, Good, Bad, and_then}

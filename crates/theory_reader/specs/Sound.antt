@@ -1,8 +1,7 @@
 -- What the type of theories keeps.
-use Rattle.std.specs.Prelude.{ℕ, ◌+◌, ◌^◌, nat_le, nat_lt, Bool, ◌&&◌, List, ◌++◌, ◌∷◌, length, map, take}
+use Rattle.std.specs.Prelude.{ℕ, ◌+◌, ◌^◌, nat_le, nat_lt, Bool, ◌&&◌, List, ◌++◌, length, map, take}
 use Rattle.std.specs.List.{list_all}
 use Rattle.hol_terms.specs.declared.sig.Sig.{Sig}
-use Rattle.hol_terms.specs.declared.term.Term.{Term}
 use Rattle.hol_terms.specs.Formulas.{is_sentence}
 use Rattle.theory_terms.specs.declared.decl.Decl.{Decl}
 use Rattle.theory_reader.specs.declared.statement.Fact.{Fact}

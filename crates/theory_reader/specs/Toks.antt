@@ -1,5 +1,5 @@
 -- What the words and marks of a text say to its grammar.
-use Rattle.std.specs.Prelude.{ℕ, ◌==◌, true, false, if◌then◌else◌, List, [], ◌∷◌, map, codes, slice_get, slice_index, length}
+use Rattle.std.specs.Prelude.{ℕ, ◌==◌, true, false, if◌then◌else◌, List, map, codes, slice_get, slice_index, length}
 use Rattle.std.specs.Option.{option_map_or}
 use Rattle.std.specs.Str.{bytes_eq}
 use Rattle.text_kit.specs.declared.cut.Token.{Token}

@@ -1,7 +1,6 @@
 -- The facts that a goal is proved from, and its environment.
-use Rattle.std.specs.Prelude.{◌≡◌, ℕ, List, [], map, slice_get, Option, Some, None}
+use Rattle.std.specs.Prelude.{◌≡◌, ℕ, List, [], map, slice_get, Some}
 use Rattle.std.specs.Option.{option_map, option_map_or}
-use Rattle.hol_terms.specs.declared.sig.Sig.{Sig}
 use Rattle.hol_terms.specs.declared.env.Env.{Env}
 use Rattle.theory_terms.specs.Signature.{sig_of}
 use Rattle.theory_reader.specs.declared.statement.Fact.{Fact}

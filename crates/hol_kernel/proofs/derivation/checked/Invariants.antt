@@ -1,7 +1,4 @@
-use Rattle.std.proofs.Common.{◌≡◌, ◌++◌}
 use Rattle.std.specs.Vec.Iter.{into_iter_items}
-use Rattle.kernel_rules.specs.declared.step.Step.{Step}
-use Rattle.hol_kernel.specs.Checking.{IsLogOf}
 use Rattle.hol_kernel.proofs.Walking.{IsWalked}
 use Rattle.hol_kernel.proofs.derivation.checked.Given as goal
 

@@ -1,4 +1,4 @@
-use Rattle.std.proofs.Common.{◌≡◌, ◌∙◌, ◌≤◌, ◌+◌, ap, sym, subst, IsTrue, length, ◌<◌, arith}
+use Rattle.std.proofs.Common.{◌≡◌, ◌≤◌, sym, subst, IsTrue, length, ◌<◌, arith}
 use Rattle.std.specs.List.{list_all}
 use Rattle.hol_terms.specs.Formulas.{is_sentence}
 use Rattle.theory_terms.specs.Signature.{sig_of}

@@ -1,4 +1,4 @@
-use Rattle.std.proofs.Common.{◌≡◌, ◌≤◌, sym, subst, length, ap, ◌∙◌}
+use Rattle.std.proofs.Common.{◌≤◌, sym, subst, length}
 use Rattle.theory_reader.proofs.Envs.{stands_behind, few_assumes}
 use Rattle.theory_reader.proofs.theory.Theory.visible_named.Goals as goal
 
