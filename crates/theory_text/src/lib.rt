@@ -5,3 +5,6 @@ mod printer;
 mod statements;
 
 pub use printer::print;
+
+#[cfg(test)]
+mod tests;
