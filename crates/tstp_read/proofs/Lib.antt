@@ -1,3 +1,4 @@
+mod LineEnds
 pub mod Lists
 pub mod Walk
 pub mod Prefixes

@@ -3,6 +3,8 @@ ghost use Rattle.std.specs.List.{prefix_len};
 ghost use Rattle.std.specs.Char.{is_ascii_alphabetic};
 ghost use Rattle.tstp_read.specs.Lines.{is_space, is_sign, is_inside_line, behind_spaces, behind_some_spaces, said, goes_on_with, line_with, is_proved, letters, status_of, succeeds, behind_line, part_of};
 
+use bstr::ByteSlice;
+
 /// A range of places, the last one excluded.
 #[derive(Clone, Copy, Debug, Drop, PartialEq, Eq)]
 pub struct Span {
@@ -34,7 +36,10 @@ pub fn line_len(text: &[u8]) -> usize
     ensures value { result ≡ prefix_len is_inside_line text.now }
     ensures within { result ≤ length text.now }
 {
-    text.iter().take_while(|b| **b != b'\n').count()
+    match text.find_byte(b'\n') {
+        Some(at) => at,
+        None => text.len(),
+    }
 }
 
 /// What stands from a place on.
