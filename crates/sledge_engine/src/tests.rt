@@ -48,7 +48,6 @@ fn says(
 }
 
 /// The status where the sink fails at its first put.
-#[tactic(none)]
 fn status_over_failing_sink(alloc: Global) -> Result<u8, NoMemory> {
     let words = words(alloc, &["metis", "T", "g", "f1", "f2"])?;
     let mut shelf = shelf(alloc, IMPLIED)?;
@@ -167,7 +166,6 @@ const CASES: [Case; 16] = [
 ];
 
 /// Whether each line is answered as the table says.
-#[tactic(none)]
 fn all_say(alloc: Global, cases: &[Case]) -> Result<bool, NoMemory> {
     for case in cases {
         if !says(alloc, case.theory, case.line, case.status, case.text)? {
