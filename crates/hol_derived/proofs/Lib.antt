@@ -1,0 +1,5 @@
+pub mod Unions
+pub mod Cuts
+pub mod Splits
+pub mod Holes
+pub mod ContextLaws

@@ -1,0 +1,32 @@
+use Rattle.std.proofs.Common.{ap}
+use Rattle.std.specs.FinSet as set
+use Rattle.kernel_rules.specs.Connectives.{neg}
+use Rattle.kernel_rules.specs.Rules.{seq}
+use Rattle.hol_kernel.specs.Logs.{thm}
+use Rattle.hol_kernel.proofs.Growing.{extends_refl}
+use Rattle.hol_kernel.proofs.Making.{err_free}
+use Rattle.hol_derived.proofs.Cuts.{gives_as}
+use Rattle.hol_derived.proofs.Splits.{either_formula}
+use Rattle.hol_derived.proofs.splitting.conclude.Goals as goal
+
+pub returns-in_err-whole-clause-kept : goal.returns-in_err-whole-clause-kept
+returns-in_err-whole-clause-kept c = extends_refl c.args.log.now
+
+pub returns-in_err-whole-clause-gives : goal.returns-in_err-whole-clause-gives
+returns-in_err-whole-clause-gives c = err_free c.from_residual.result _ c.from_residual.ensures.0
+
+pub classical_own-requires-clause-t : goal.classical_own-requires-clause-t
+classical_own-requires-clause-t c = either_formula c.args.log.now c.args.p.now c.in_ok-whole.whole c.in_ok-whole.ensures c.requires.p
+
+pub classical_own-requires-clause-a : goal.classical_own-requires-clause-a
+classical_own-requires-clause-a c = c.requires.refuted
+
+pub classical_own-requires-clause-fits : goal.classical_own-requires-clause-fits
+classical_own-requires-clause-fits c = c.requires.fits
+
+pub returns-clause-kept : goal.returns-clause-kept
+returns-clause-kept c = c.classical_own.ensures.kept
+
+pub returns-clause-gives : goal.returns-clause-gives
+returns-clause-gives c =
+    gives_as c.classical_own.result c.classical_own.new.self _ _ (ap (λ t. seq (set.remove (thm c.args.log.now c.args.refuted.0).hyps (neg t)) t) c.in_ok-whole.ensures) c.classical_own.ensures.gives
