@@ -1,17 +1,18 @@
 //! Runs the search on a problem that keeps thousands of clauses, and prints how it ended.
 //!
-//! The words are the problem, `group` or `order`, its size, and the budget of picks. `group` are the axioms of groups with the goal, which
-//! doesn't follow, that the operation commutes; its size isn't used. `order` is a transitive relation over a chain of `size` constants,
-//! with a goal that doesn't follow.
+//! The words are the problem, `group`, `order` or `ladder`, its size, and the budget of picks. `group` are the axioms of groups with the
+//! goal, which doesn't follow, that the operation commutes; its size isn't used. `order` is a transitive relation over a chain of `size`
+//! constants, with a goal that doesn't follow. `ladder` is a relation over `size` constants that goes on step by step on both sides.
 #![tactic(auto)]
 
 mod problems;
 
+use fo_terms::Clause;
 use metis_core::{Search, Turn};
-use problems::{group, order};
+use problems::{group, ladder, order};
 use std::alloc::Global;
 use std::{env, io};
-use text_kit::NoMemory;
+use text_kit::{NoMemory, Rows};
 
 /// Ended how, after how many picks, with how many kept clauses.
 #[derive(Clone, Copy, Drop)]
@@ -21,12 +22,17 @@ struct Ended {
     kept: usize,
 }
 
-fn run(alloc: Global, is_group: bool, size: u32, budget: u32) -> Result<Ended, NoMemory> {
-    let inputs = if is_group {
-        group(alloc)?
-    } else {
-        order(alloc, size)?
-    };
+/// The clauses of the problem of this name; `order` where there is none.
+fn clauses(alloc: Global, problem: &str, size: u32) -> Result<Rows<Clause>, NoMemory> {
+    match problem {
+        "group" => group(alloc),
+        "ladder" => ladder(alloc, size),
+        _ => order(alloc, size),
+    }
+}
+
+fn run(alloc: Global, problem: &str, size: u32, budget: u32) -> Result<Ended, NoMemory> {
+    let inputs = clauses(alloc, problem, size)?;
     let mut search = Search::begin_child(alloc, inputs, budget, 5)?;
     for picks in 1..=budget {
         let turn = search.turn(1);
@@ -52,13 +58,13 @@ fn number(word: Option<String>, otherwise: u32) -> u32 {
 
 fn main(rt: HostRuntime) -> io::Result<()> {
     let mut words = env::args(&rt)?.skip(1);
-    let is_group = match words.next() {
-        Some(word) => word.as_str() == "group",
-        None => true,
+    let problem = match words.next() {
+        Some(word) => word,
+        None => return Ok(()),
     };
     let size = number(words.next(), 20);
     let budget = number(words.next(), 100);
-    match run(rt.alloc(), is_group, size, budget) {
+    match run(rt.alloc(), problem.as_str(), size, budget) {
         Ok(ended) => println!(rt;
             "{:?} after {} picks, {} clauses kept",
             ended.turn, ended.picks, ended.kept

@@ -123,3 +123,47 @@ pub fn order(alloc: Global, size: u32) -> Result<Rows<Clause>, NoMemory> {
     inputs.push(unit_clause(alloc, false, before(alloc, last, first)?)?)?;
     Ok(inputs)
 }
+
+/// The literal that one term is, or isn't, before another.
+fn compared(alloc: Global, positive: bool, x: FoTerm, y: FoTerm) -> Result<Literal, NoMemory> {
+    let atom = before(alloc, x, y)?;
+    Ok(Literal { positive, atom })
+}
+
+/// The constant with this number.
+fn numbered(alloc: Global, n: u32) -> FoTerm {
+    constant(alloc, FIRST_CONSTANT + n as u64)
+}
+
+/// From `x` before constant n to `x` before constant n + 1.
+fn step_up(alloc: Global, n: u32) -> Result<Clause, NoMemory> {
+    let from = numbered(alloc, n);
+    let to = constant(alloc, FIRST_CONSTANT + n as u64 + 1);
+    let mut literals = Rows::begin(alloc);
+    literals.push(compared(alloc, false, FoTerm::Var(0), from)?)?;
+    literals.push(compared(alloc, true, FoTerm::Var(0), to)?)?;
+    Ok(Clause { literals })
+}
+
+/// From constant n + 1 before `x` to constant n before `x`.
+fn step_down(alloc: Global, n: u32) -> Result<Clause, NoMemory> {
+    let from = constant(alloc, FIRST_CONSTANT + n as u64 + 1);
+    let to = numbered(alloc, n);
+    let mut literals = Rows::begin(alloc);
+    literals.push(compared(alloc, false, from, FoTerm::Var(0))?)?;
+    literals.push(compared(alloc, true, to, FoTerm::Var(0))?)?;
+    Ok(Clause { literals })
+}
+
+/// Steps on both sides of a relation over `size` constants, with one pair in the middle: all pairs around it follow.
+pub fn ladder(alloc: Global, size: u32) -> Result<Rows<Clause>, NoMemory> {
+    let mut inputs = Rows::begin(alloc);
+    for n in 0..size {
+        inputs.push(step_up(alloc, n)?)?;
+        inputs.push(step_down(alloc, n)?)?;
+    }
+    let low = numbered(alloc, size / 2);
+    let high = numbered(alloc, size / 2);
+    inputs.push(unit_clause(alloc, true, before(alloc, low, high)?)?)?;
+    Ok(inputs)
+}
