@@ -6,18 +6,17 @@ use Rattle.hol_terms.specs.declared.sig.Sig.{Sig}
 use Rattle.hol_terms.specs.declared.term.Term.{Term}
 use Rattle.hol_terms.specs.Types.{bool_ty, function_ty, ty_fits}
 use Rattle.hol_terms.specs.Typing.{type_in, type_of_term}
-use Rattle.hol_terms.specs.Substitution.{put, instantiated, is_closed}
+use Rattle.hol_terms.specs.Substitution.{put, instantiated}
 use Rattle.hol_terms.specs.Formulas.{IsFormula, typed_as, aux_free}
 use Rattle.hol_terms.proofs.Both.{and_true}
 use Rattle.hol_terms.proofs.Closed.{typed_closed}
 use Rattle.hol_terms.proofs.Equations.{type-lam, aux_free-lam}
 use Rattle.hol_terms.proofs.Formulas.{formula_typed, formula_aux_free, formula_closed, is_typed_as}
 use Rattle.hol_terms.proofs.TypedParts.{under_so}
-use Rattle.kernel_rules.specs.Connectives.{apply, lambda, applied_to, body_of, is_lambda, is_equal, head_ty, left_of, right_of, equal}
+use Rattle.kernel_rules.specs.Connectives.{apply, lambda, applied_to, body_of, is_lambda, is_equal, head_ty, left_of, right_of}
 use Rattle.kernel_rules.specs.Rules.{is_given}
 use Rattle.kernel_rules.proofs.Parts.{is_lambda-lambda, body_of-lambda, equal_is}
 use Rattle.kernel_rules.proofs.TypedTerms.{equal_sides}
-use Rattle.hol_kernel.specs.Conditions.{IsProperty}
 use Rattle.hol_derived.specs.Paths.{part_at, replaced_at}
 use Rattle.hol_derived.specs.Contexts.{IsContext}
 use Rattle.hol_derived.proofs.Holes.{gap, whole_again, hole_filled, hole_typed, hole_aux_free}

@@ -1,5 +1,5 @@
 -- A theorem that is cut with another.
-use Rattle.std.proofs.Common.{◌≡◌, ℕ, Ok, Err, sym, ◌∙◌, ap, subst}
+use Rattle.std.proofs.Common.{◌≡◌, ℕ, sym, ◌∙◌, ap, subst}
 use Rattle.std.specs.Prelude.{Result, IfOk}
 use Rattle.std.specs.FinSet as set
 use Rattle.hol_terms.specs.declared.term.Term.{Term}

@@ -1,5 +1,5 @@
 -- A term with a hole at a path.
-use Rattle.std.proofs.Common.{◌≡◌, ℕ, zero, suc, ◌+◌, Bool, true, false, ◌==◌, if◌then◌else◌, ◌⊎◌, inl, inr, IsTrue, refl, sym, ◌∙◌, ap, subst, List, [], ◌∷◌, Some, None, rules, arith}
+use Rattle.std.proofs.Common.{◌≡◌, ℕ, ◌+◌, Bool, true, false, ◌==◌, if◌then◌else◌, ◌⊎◌, inl, inr, IsTrue, refl, sym, ◌∙◌, ap, subst, List, [], ◌∷◌, Some, None, rules}
 use Rattle.std.specs.Prelude.{Option}
 use Rattle.std.proofs.lemmas.Bool.{eqb-true}
 use Rattle.hol_terms.specs.declared.ty.Ty.{Ty}

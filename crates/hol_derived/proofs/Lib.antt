@@ -3,3 +3,8 @@ pub mod Cuts
 pub mod Splits
 pub mod Holes
 pub mod ContextLaws
+pub mod PutPut
+pub mod Fresh
+pub mod PathLaws
+pub mod Expansions
+pub mod Downwards

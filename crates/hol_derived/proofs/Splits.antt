@@ -1,12 +1,9 @@
 -- What the steps of a case distinction give.
 use Rattle.std.proofs.Common.{◌≡◌, ℕ, IsTrue, sym, ◌∙◌, ap, subst, refl}
 use Rattle.std.specs.FinSet as set
-use Rattle.hol_terms.specs.declared.sig.Sig.{Sig}
-use Rattle.hol_terms.specs.declared.env.Env.{Env}
 use Rattle.hol_terms.specs.declared.term.Term.{Term}
 use Rattle.hol_terms.specs.Formulas.{IsFormula}
 use Rattle.hyp_sets.specs.Sets.{TermSet, only}
-use Rattle.kernel_rules.specs.declared.sequent.Sequent.{Sequent}
 use Rattle.kernel_rules.specs.Connectives.{falsum, neg, disj, left_of, right_of, is_disj}
 use Rattle.kernel_rules.specs.Rules.{seq}
 use Rattle.kernel_rules.proofs.Parts.{right_of-apply, left_of-two, is_disj-disj}

@@ -54,6 +54,25 @@ fn context(log: &Log, eq: ThmId, th: ThmId, path: &[u8]) -> Result<Term, NoMemor
     lambda(alloc, own, body)
 }
 
+/// `replace_at` with the path's numbers lent.
+#[tactic(none)]
+pub(crate) fn replace_along(
+    log: &mut Log,
+    eq: ThmId,
+    th: ThmId,
+    path: &[u8],
+) -> Result<ThmId, NoMemory>
+    requires eq { IsThm log.old eq.0 }
+    requires th { IsThm log.old th.0 }
+    requires is { IsTrue (is_equal (thm log.old eq.0).concl) }
+    requires part { part_at path.now (thm log.old th.0).concl ≡ Some (left_of (thm log.old eq.0).concl) }
+    ensures kept { Extends log.old log.new }
+    ensures gives { IfOk result (λ r. Gives log.new r.0 (seq (set.union (thm log.old eq.0).hyps (thm log.old th.0).hyps) (replaced_at path.now (right_of (thm log.old eq.0).concl) (thm log.old th.0).concl))) }
+{
+    let property = context(&*log, eq, th, path)?;
+    log.subst_own(property, eq, th)
+}
+
 /// From `G : s = t` and `D : c`, where `c` has `s` at the path, to `G + D` with `t` there.
 ///
 /// A path's 0 goes to the function of an application, its 1 to the argument. It crosses no binder.
@@ -66,6 +85,5 @@ pub fn replace_at(log: &mut Log, eq: ThmId, th: ThmId, path: &Rows<u8>) -> Resul
     ensures kept { Extends log.old log.new }
     ensures gives { IfOk result (λ r. Gives log.new r.0 (seq (set.union (thm log.old eq.0).hyps (thm log.old th.0).hyps) (replaced_at path.now (right_of (thm log.old eq.0).concl) (thm log.old th.0).concl))) }
 {
-    let property = context(&*log, eq, th, path.as_slice())?;
-    log.subst_own(property, eq, th)
+    replace_along(log, eq, th, path.as_slice())
 }

@@ -1,4 +1,4 @@
-use Rattle.std.proofs.Common.{sym, ◌∙◌, ap, subst}
+use Rattle.std.proofs.Common.{◌∙◌, ap, subst}
 use Rattle.hol_terms.specs.Formulas.{IsFormula}
 use Rattle.kernel_rules.specs.Connectives.{head_ty}
 use Rattle.hol_kernel.specs.Logs.{thm}

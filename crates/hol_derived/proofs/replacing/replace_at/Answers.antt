@@ -1,53 +1,30 @@
-use Rattle.std.proofs.Common.{◌≡◌, Some, sym, ◌∙◌, ap, subst}
+use Rattle.std.proofs.Common.{◌∙◌, ap}
 use Rattle.std.specs.FinSet as set
-use Rattle.kernel_rules.specs.Connectives.{left_of, right_of}
+use Rattle.kernel_rules.specs.Connectives.{right_of}
 use Rattle.kernel_rules.specs.Rules.{seq}
 use Rattle.hol_kernel.specs.Logs.{thm}
-use Rattle.hol_kernel.proofs.Growing.{extends_refl}
-use Rattle.hol_kernel.proofs.Making.{err_free}
 use Rattle.hol_derived.specs.Paths.{part_at, replaced_at}
 use Rattle.hol_derived.proofs.Cuts.{gives_as}
 use Rattle.hol_derived.proofs.replacing.replace_at.Goals as goal
 
-pub context-requires-clause-eq : goal.context-requires-clause-eq
-context-requires-clause-eq c = c.requires.eq
+pub replace_along-requires-clause-eq : goal.replace_along-requires-clause-eq
+replace_along-requires-clause-eq c = c.requires.eq
 
-pub context-requires-clause-th : goal.context-requires-clause-th
-context-requires-clause-th c = c.requires.th
+pub replace_along-requires-clause-th : goal.replace_along-requires-clause-th
+replace_along-requires-clause-th c = c.requires.th
 
-pub context-requires-clause-is : goal.context-requires-clause-is
-context-requires-clause-is c = c.requires.is
+pub replace_along-requires-clause-is : goal.replace_along-requires-clause-is
+replace_along-requires-clause-is c = c.requires.is
 
-pub context-requires-clause-part : goal.context-requires-clause-part
-context-requires-clause-part c = ap (λ p. part_at p (thm c.args.log.now c.args.th.0).concl) c.as_slice.ensures ∙ c.requires.part
-
-pub returns-in_err-property-clause-kept : goal.returns-in_err-property-clause-kept
-returns-in_err-property-clause-kept c = extends_refl c.args.log.now
-
-pub returns-in_err-property-clause-gives : goal.returns-in_err-property-clause-gives
-returns-in_err-property-clause-gives c = err_free c.from_residual.result _ c.from_residual.ensures.0
-
-pub subst_own-requires-clause-eq : goal.subst_own-requires-clause-eq
-subst_own-requires-clause-eq c = c.requires.eq
-
-pub subst_own-requires-clause-a : goal.subst_own-requires-clause-a
-subst_own-requires-clause-a c = c.requires.th
-
-pub subst_own-requires-clause-is : goal.subst_own-requires-clause-is
-subst_own-requires-clause-is c = c.requires.is
-
-pub subst_own-requires-clause-f : goal.subst_own-requires-clause-f
-subst_own-requires-clause-f c = c.in_ok-property.ensures.property
-
-pub subst_own-requires-clause-fits : goal.subst_own-requires-clause-fits
-subst_own-requires-clause-fits c = c.in_ok-property.ensures.before
+pub replace_along-requires-clause-part : goal.replace_along-requires-clause-part
+replace_along-requires-clause-part c = ap (λ p. part_at p (thm c.args.log.now c.args.th.0).concl) c.as_slice.ensures ∙ c.requires.part
 
 pub returns-clause-kept : goal.returns-clause-kept
-returns-clause-kept c = c.subst_own.ensures.kept
+returns-clause-kept c = c.replace_along.ensures.kept
 
 pub returns-clause-gives : goal.returns-clause-gives
 returns-clause-gives c =
     let e = (thm c.args.log.now c.args.eq.0).concl in
     let t = (thm c.args.log.now c.args.th.0).concl in
-    gives_as c.subst_own.result c.subst_own.new.self _ _
-    (ap (seq (set.union (thm c.args.log.now c.args.eq.0).hyps (thm c.args.log.now c.args.th.0).hyps)) (c.in_ok-property.ensures.after ∙ ap (λ p. replaced_at p (right_of e) t) c.as_slice.ensures)) c.subst_own.ensures.gives
+    gives_as c.replace_along.result c.replace_along.new.log _ _
+    (ap (seq (set.union (thm c.args.log.now c.args.eq.0).hyps (thm c.args.log.now c.args.th.0).hyps)) (ap (λ p. replaced_at p (right_of e) t) c.as_slice.ensures)) c.replace_along.ensures.gives

@@ -1,5 +1,5 @@
 use Rattle.std.proofs.Common.{ap}
-use Rattle.hol_kernel.proofs.Growing.{extends_refl, extends_trans, thm_stays}
+use Rattle.hol_kernel.proofs.Growing.{extends_trans}
 use Rattle.hol_kernel.proofs.Making.{err_free}
 use Rattle.hol_derived.proofs.Cuts.{gives_as}
 use Rattle.hol_derived.proofs.Splits.{formula_stays, denied_is}

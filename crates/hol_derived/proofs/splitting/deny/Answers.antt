@@ -1,5 +1,4 @@
-use Rattle.std.proofs.Common.{ap, subst}
-use Rattle.std.specs.Prelude.{IfOk}
+use Rattle.std.proofs.Common.{ap}
 use Rattle.hyp_sets.specs.Sets.{only}
 use Rattle.kernel_rules.specs.Rules.{seq}
 use Rattle.hol_kernel.proofs.Growing.{extends_refl}

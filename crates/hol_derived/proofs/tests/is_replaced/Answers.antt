@@ -2,7 +2,7 @@ use Rattle.std.proofs.Common.{◌≡◌, ℕ, ◌<◌, IsTrue, refl, sym, ◌∙
 use Rattle.hol_terms.specs.declared.term.Term.{Term}
 use Rattle.hol_terms.specs.declared.term.Term.TheOpen.{Term-F}
 use Rattle.hol_terms.specs.declared.term.Term.TheViews.{out-roll-Term}
-use Rattle.kernel_rules.specs.Connectives.{apply, neg, constant, is_neg, is_equal, right_of, left_of}
+use Rattle.kernel_rules.specs.Connectives.{apply, is_neg, is_equal, right_of, left_of}
 use Rattle.kernel_rules.proofs.Parts.{neg_is}
 use Rattle.hol_derived.specs.Paths.{child, behind, part_at}
 use Rattle.hol_derived.proofs.tests.is_replaced.Goals as goal
