@@ -1,6 +1,7 @@
 -- What a rule gives of premises that are there, and that are missing.
 use Rattle.std.proofs.Common.{◌≡◌, ℕ, IsTrue, Some, None, Ok, Err, refl, sym, ◌∙◌, ap, subst, List, slice_get}
 use Rattle.std.specs.Prelude.{Option, Result, IfOk}
+use Rattle.std.specs.Option.{unwrap_or}
 use Rattle.hol_terms.specs.declared.sig.Sig.{Sig}
 use Rattle.hol_terms.specs.declared.term.Term.{Term}
 use Rattle.hol_terms.specs.Substitution.{is_closed}
@@ -59,5 +60,7 @@ premise_closed sig earlier i p are e = formula_closed sig p.concl (are i p (sym 
 pub at_step : {E : Type 0} (r : Result (Option Sequent) E) (env : Env) (s v : Step) (earlier : List Sequent) → s ≡ v → IfOk r (λ o. o ≡ sequent env v earlier) → IfOk r (λ o. o ≡ sequent env s earlier)
 at_step r env s v earlier e h = subst (λ z. IfOk r (λ o. o ≡ sequent env z earlier)) (sym e) h
 
-pub none_at_step : (env : Env) (s v : Step) (earlier : List Sequent) → s ≡ v → None ≡ sequent env v earlier → None ≡ sequent env s earlier
-none_at_step env s v earlier e h = subst (λ z. None ≡ sequent env z earlier) (sym e) h
+-- a step whose premises are missing has no sequent
+pub no_answer : {E : Type 0} (r : Option (Result (Option Sequent) E)) (env : Env) (s v : Step) (earlier : List Sequent) → r ≡ None → s ≡ v → None ≡ sequent env v earlier →
+    IfOk (unwrap_or r (Ok None)) (λ o. o ≡ sequent env s earlier)
+no_answer r env s v earlier none e h = subst (λ z. IfOk (unwrap_or z (Ok None)) (λ o. o ≡ sequent env s earlier)) (sym none) (subst (λ z. None ≡ sequent env z earlier) (sym e) h)

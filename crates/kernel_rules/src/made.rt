@@ -1,5 +1,5 @@
-ghost use Rattle.std.specs.Prelude.{◌≡◌, IfOk, slice_get};
-ghost use Rattle.std.specs.Option.{option_copied};
+ghost use Rattle.std.specs.Prelude.{◌≡◌, None, Ok, IfOk, slice_get};
+ghost use Rattle.std.specs.Option.{option_copied, unwrap_or};
 ghost use Rattle.kernel_rules.specs.Derivations.{sequent};
 ghost use Rattle.kernel_rules.specs.Formulas.{AreOver};
 
@@ -21,8 +21,51 @@ fn at<'s>(earlier: &'s Rows<Sequent>, a: &ThmId) -> Option<&'s Sequent>
     earlier.get(a.0 as usize)
 }
 
-/// The sequent that a step gives over the sequents before it, where it gives one.
+/// What the step's rule answers, where the step's premises are there.
 #[tactic(none)]
+fn answer(
+    alloc: Global,
+    env: &Env,
+    step: &Step,
+    earlier: &Rows<Sequent>,
+) -> Option<Result<Option<Sequent>, NoMemory>>
+    requires { AreOver env.now.sig earlier.now }
+    ensures { IfOk (unwrap_or result (Ok None)) (λ o. o ≡ sequent env.now step.now earlier.now) }
+{
+    match step {
+        Step::Fact(n) => Some(fact(alloc, env.facts.get(*n as usize)?)),
+        Step::Assume(t) => Some(assume(alloc, &env.sig, t)),
+        Step::ImpIntro(t, a) => Some(imp_intro(alloc, &env.sig, t, at(earlier, a)?)),
+        Step::ImpElim(ab, a) => Some(imp_elim(alloc, at(earlier, ab)?, at(earlier, a)?)),
+        Step::AndIntro(a, b) => Some(and_intro(alloc, at(earlier, a)?, at(earlier, b)?)),
+        Step::AndLeft(ab) => Some(and_left(at(earlier, ab)?)),
+        Step::AndRight(ab) => Some(and_right(at(earlier, ab)?)),
+        Step::OrLeft(t, a) => Some(or_left(alloc, &env.sig, t, at(earlier, a)?)),
+        Step::OrRight(t, b) => Some(or_right(alloc, &env.sig, t, at(earlier, b)?)),
+        Step::OrElim(ab, l, r) => Some(or_elim(
+            alloc,
+            at(earlier, ab)?,
+            at(earlier, l)?,
+            at(earlier, r)?,
+        )),
+        Step::NotIntro(t, a) => Some(not_intro(alloc, &env.sig, t, at(earlier, a)?)),
+        Step::NotElim(na, a) => Some(not_elim(alloc, at(earlier, na)?, at(earlier, a)?)),
+        Step::TrueIntro => Some(true_intro(alloc)),
+        Step::Classical(t, a) => Some(classical(alloc, &env.sig, t, at(earlier, a)?)),
+        Step::AllIntro(n, ty, a) => Some(all_intro(alloc, &env.sig, *n, ty, at(earlier, a)?)),
+        Step::AllElim(t, a) => Some(all_elim(alloc, &env.sig, t, at(earlier, a)?)),
+        Step::ExIntro(f, t, a) => Some(ex_intro(alloc, &env.sig, f, t, at(earlier, a)?)),
+        Step::Choose(a) => Some(choose(alloc, at(earlier, a)?)),
+        Step::Refl(t) => Some(refl(alloc, &env.sig, t)),
+        Step::Subst(f, eq, a) => Some(subst(alloc, &env.sig, f, at(earlier, eq)?, at(earlier, a)?)),
+        Step::Beta(t) => Some(beta(alloc, &env.sig, t)),
+        Step::Abs(n, ty, a) => Some(abs(alloc, &env.sig, *n, ty, at(earlier, a)?)),
+        Step::Iff(ab, ba) => Some(iff(alloc, at(earlier, ab)?, at(earlier, ba)?)),
+        Step::Inst(n, ty, t, a) => Some(inst(alloc, &env.sig, *n, ty, t, at(earlier, a)?)),
+    }
+}
+
+/// The sequent that a step gives over the sequents before it, where it gives one.
 pub fn sequent_of(
     alloc: Global,
     env: &Env,
@@ -32,111 +75,5 @@ pub fn sequent_of(
     requires { AreOver env.now.sig earlier.now }
     ensures { IfOk result (λ o. o ≡ sequent env.now step.now earlier.now) }
 {
-    match step {
-        Step::Fact(n) => match env.facts.get(*n as usize) {
-            Some(t) => fact(alloc, t),
-            None => Ok(None),
-        },
-        Step::Assume(t) => assume(alloc, &env.sig, t),
-        Step::ImpIntro(t, a) => match at(earlier, a) {
-            Some(p) => imp_intro(alloc, &env.sig, t, p),
-            None => Ok(None),
-        },
-        Step::ImpElim(ab, a) => match at(earlier, ab) {
-            Some(p) => match at(earlier, a) {
-                Some(q) => imp_elim(alloc, p, q),
-                None => Ok(None),
-            },
-            None => Ok(None),
-        },
-        Step::AndIntro(a, b) => match at(earlier, a) {
-            Some(p) => match at(earlier, b) {
-                Some(q) => and_intro(alloc, p, q),
-                None => Ok(None),
-            },
-            None => Ok(None),
-        },
-        Step::AndLeft(ab) => match at(earlier, ab) {
-            Some(p) => and_left(p),
-            None => Ok(None),
-        },
-        Step::AndRight(ab) => match at(earlier, ab) {
-            Some(p) => and_right(p),
-            None => Ok(None),
-        },
-        Step::OrLeft(t, a) => match at(earlier, a) {
-            Some(p) => or_left(alloc, &env.sig, t, p),
-            None => Ok(None),
-        },
-        Step::OrRight(t, b) => match at(earlier, b) {
-            Some(p) => or_right(alloc, &env.sig, t, p),
-            None => Ok(None),
-        },
-        Step::OrElim(ab, l, r) => match at(earlier, ab) {
-            Some(p) => match at(earlier, l) {
-                Some(q) => match at(earlier, r) {
-                    Some(s) => or_elim(alloc, p, q, s),
-                    None => Ok(None),
-                },
-                None => Ok(None),
-            },
-            None => Ok(None),
-        },
-        Step::NotIntro(t, a) => match at(earlier, a) {
-            Some(p) => not_intro(alloc, &env.sig, t, p),
-            None => Ok(None),
-        },
-        Step::NotElim(na, a) => match at(earlier, na) {
-            Some(p) => match at(earlier, a) {
-                Some(q) => not_elim(alloc, p, q),
-                None => Ok(None),
-            },
-            None => Ok(None),
-        },
-        Step::TrueIntro => true_intro(alloc),
-        Step::Classical(t, a) => match at(earlier, a) {
-            Some(p) => classical(alloc, &env.sig, t, p),
-            None => Ok(None),
-        },
-        Step::AllIntro(n, ty, a) => match at(earlier, a) {
-            Some(p) => all_intro(alloc, &env.sig, *n, ty, p),
-            None => Ok(None),
-        },
-        Step::AllElim(t, a) => match at(earlier, a) {
-            Some(p) => all_elim(alloc, &env.sig, t, p),
-            None => Ok(None),
-        },
-        Step::ExIntro(f, t, a) => match at(earlier, a) {
-            Some(p) => ex_intro(alloc, &env.sig, f, t, p),
-            None => Ok(None),
-        },
-        Step::Choose(a) => match at(earlier, a) {
-            Some(p) => choose(alloc, p),
-            None => Ok(None),
-        },
-        Step::Refl(t) => refl(alloc, &env.sig, t),
-        Step::Subst(f, eq, a) => match at(earlier, eq) {
-            Some(p) => match at(earlier, a) {
-                Some(q) => subst(alloc, &env.sig, f, p, q),
-                None => Ok(None),
-            },
-            None => Ok(None),
-        },
-        Step::Beta(t) => beta(alloc, &env.sig, t),
-        Step::Abs(n, ty, a) => match at(earlier, a) {
-            Some(p) => abs(alloc, &env.sig, *n, ty, p),
-            None => Ok(None),
-        },
-        Step::Iff(ab, ba) => match at(earlier, ab) {
-            Some(p) => match at(earlier, ba) {
-                Some(q) => iff(alloc, p, q),
-                None => Ok(None),
-            },
-            None => Ok(None),
-        },
-        Step::Inst(n, ty, t, a) => match at(earlier, a) {
-            Some(p) => inst(alloc, &env.sig, *n, ty, t, p),
-            None => Ok(None),
-        },
-    }
+    answer(alloc, env, step, earlier).unwrap_or(Ok(None))
 }
