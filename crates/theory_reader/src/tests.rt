@@ -15,10 +15,10 @@ fn faulty(alloc: Global, text: &[u8], at: u64, kind: TheoryKind) -> bool {
     text.len() < MOST && read(alloc, text).err() == Some(TheoryFault::At { at, kind })
 }
 
-/// The place of the first text whose fault is another.
-fn first_wrong(alloc: Global, cases: &[(&[u8], u64, TheoryKind)]) -> Option<usize> {
+/// The place of the first text whose fault is not the one of this kind.
+fn first_wrong(alloc: Global, kind: TheoryKind, cases: &[(&[u8], u64)]) -> Option<usize> {
     for (i, case) in cases.iter().enumerate() {
-        if !faulty(alloc, case.0, case.1, case.2) {
+        if !faulty(alloc, case.0, case.1, kind) {
             return Some(i);
         }
     }
@@ -26,143 +26,119 @@ fn first_wrong(alloc: Global, cases: &[(&[u8], u64, TheoryKind)]) -> Option<usiz
 }
 
 #[test]
-fn faults_stand_at_their_places(rt: HostRuntime) -> Result<(), Fail> {
+fn faults_of_syntax(rt: HostRuntime) -> Result<(), Fail> {
     let cases = [
-        (
-            b"const p : bool goal g : p;".as_slice(),
-            15,
-            TheoryKind::Syntax,
-        ),
-        (
-            b"type n; const a : n; goal g : a & a;".as_slice(),
-            30,
-            TheoryKind::IllTyped,
-        ),
-        (
-            b"type n; const a : n; goal g : a;".as_slice(),
-            30,
-            TheoryKind::NotBool,
-        ),
-        (b"type n; type n;".as_slice(), 13, TheoryKind::Repeated),
-        (b"goal g : p;".as_slice(), 9, TheoryKind::Unknown),
-        (b"goal g : %".as_slice(), 9, TheoryKind::Token),
-        (
-            b"const p : bool; goal g : p assume g : p;".as_slice(),
-            34,
-            TheoryKind::Repeated,
-        ),
-        (b"goal g : p".as_slice(), 10, TheoryKind::Syntax),
-        (
-            b"fact f : true = true = true;".as_slice(),
-            21,
-            TheoryKind::Syntax,
-        ),
-        (b"fact f : true;;".as_slice(), 14, TheoryKind::Syntax),
-        (b"type type;".as_slice(), 5, TheoryKind::Syntax),
-        (
-            b"fact f : true # the end".as_slice(),
-            23,
-            TheoryKind::Syntax,
-        ),
-        (
-            b"const p : bool; const p : q;".as_slice(),
-            22,
-            TheoryKind::Repeated,
-        ),
-        (
-            b"fact f : true; fact f : true;".as_slice(),
-            20,
-            TheoryKind::Repeated,
-        ),
-        (
-            b"fact f : true; goal f : true;".as_slice(),
-            20,
-            TheoryKind::Repeated,
-        ),
-        (
-            b"goal f : true; fact f : true;".as_slice(),
-            20,
-            TheoryKind::Repeated,
-        ),
+        (b"const p : bool goal g : p;".as_slice(), 15),
+        (b"goal g : p".as_slice(), 10),
+        (b"fact f : true = true = true;".as_slice(), 21),
+        (b"fact f : true;;".as_slice(), 14),
+        (b"type type;".as_slice(), 5),
+        (b"fact f : true # the end".as_slice(), 23),
+    ];
+    assert!(rt; first_wrong(rt.alloc(), TheoryKind::Syntax, &cases) == None);
+    assert!(rt; faulty(rt.alloc(), b"goal g : %", 9, TheoryKind::Token));
+    Ok(())
+}
+
+#[test]
+fn faults_of_repeated_names(rt: HostRuntime) -> Result<(), Fail> {
+    let cases = [
+        (b"type n; type n;".as_slice(), 13),
+        (b"const p : bool; goal g : p assume g : p;".as_slice(), 34),
+        (b"const p : bool; const p : q;".as_slice(), 22),
+        (b"fact f : true; fact f : true;".as_slice(), 20),
+        (b"fact f : true; goal f : true;".as_slice(), 20),
+        (b"goal f : true; fact f : true;".as_slice(), 20),
         (
             b"fact f : true; goal g : true assume f : true;".as_slice(),
             36,
-            TheoryKind::Repeated,
         ),
         (
             b"goal g : true assume h : true assume h : true;".as_slice(),
             37,
-            TheoryKind::Repeated,
         ),
-        (b"const c : n;".as_slice(), 10, TheoryKind::Unknown),
-        (b"fact f : !x:n. x;".as_slice(), 12, TheoryKind::Unknown),
-        (
-            b"const p : bool; fact f : p x;".as_slice(),
-            27,
-            TheoryKind::Unknown,
-        ),
-        (
-            b"goal g : true assume h : q;".as_slice(),
-            25,
-            TheoryKind::Unknown,
-        ),
-        (
-            b"fact f : (\\x:bool. x) = (\\y:bool. x);".as_slice(),
-            34,
-            TheoryKind::Unknown,
-        ),
+    ];
+    assert!(rt; first_wrong(rt.alloc(), TheoryKind::Repeated, &cases) == None);
+    Ok(())
+}
+
+#[test]
+fn faults_of_unknown_names(rt: HostRuntime) -> Result<(), Fail> {
+    let cases = [
+        (b"goal g : p;".as_slice(), 9),
+        (b"const c : n;".as_slice(), 10),
+        (b"fact f : !x:n. x;".as_slice(), 12),
+        (b"const p : bool; fact f : p x;".as_slice(), 27),
+        (b"goal g : true assume h : q;".as_slice(), 25),
+        (b"fact f : (\\x:bool. x) = (\\y:bool. x);".as_slice(), 34),
+    ];
+    assert!(rt; first_wrong(rt.alloc(), TheoryKind::Unknown, &cases) == None);
+    Ok(())
+}
+
+#[test]
+fn faults_of_applications(rt: HostRuntime) -> Result<(), Fail> {
+    let cases = [
         (
             b"type n; const a : n; const q : n -> bool; fact f : q true;".as_slice(),
             53,
-            TheoryKind::IllTyped,
-        ),
-        (
-            b"type n; const a : n; const q : n -> bool; fact f : a = (true);".as_slice(),
-            55,
-            TheoryKind::IllTyped,
-        ),
-        (
-            b"type n; const a : n; const q : n -> bool; fact f : true ==> (a);".as_slice(),
-            60,
-            TheoryKind::IllTyped,
-        ),
-        (
-            b"type n; const a : n; const q : n -> bool; fact f : ~a;".as_slice(),
-            52,
-            TheoryKind::IllTyped,
-        ),
-        (
-            b"type n; const a : n; const q : n -> bool; fact f : !x:n. (x);".as_slice(),
-            57,
-            TheoryKind::IllTyped,
         ),
         (
             b"type n; const a : n; const q : n -> bool; fact f : (q a) a;".as_slice(),
             51,
-            TheoryKind::IllTyped,
         ),
         (
             b"type n; const a : n; const q : n -> bool; fact f : q q x;".as_slice(),
             53,
-            TheoryKind::IllTyped,
         ),
         (
             b"type n; const a : n; const q : n -> bool; fact f : a a true;".as_slice(),
             51,
-            TheoryKind::IllTyped,
         ),
+    ];
+    assert!(rt; first_wrong(rt.alloc(), TheoryKind::IllTyped, &cases) == None);
+    Ok(())
+}
+
+#[test]
+fn faults_of_connectives(rt: HostRuntime) -> Result<(), Fail> {
+    let cases = [
+        (b"type n; const a : n; goal g : a & a;".as_slice(), 30),
+        (
+            b"type n; const a : n; const q : n -> bool; fact f : a = (true);".as_slice(),
+            55,
+        ),
+        (
+            b"type n; const a : n; const q : n -> bool; fact f : true ==> (a);".as_slice(),
+            60,
+        ),
+        (
+            b"type n; const a : n; const q : n -> bool; fact f : ~a;".as_slice(),
+            52,
+        ),
+        (
+            b"type n; const a : n; const q : n -> bool; fact f : !x:n. (x);".as_slice(),
+            57,
+        ),
+    ];
+    assert!(rt; first_wrong(rt.alloc(), TheoryKind::IllTyped, &cases) == None);
+    Ok(())
+}
+
+#[test]
+fn faults_of_statements(rt: HostRuntime) -> Result<(), Fail> {
+    let cases = [
+        (b"type n; const a : n; goal g : a;".as_slice(), 30),
         (
             b"type n; const a : n; const q : n -> bool; fact f : (\\x:n. x);".as_slice(),
             51,
-            TheoryKind::NotBool,
         ),
         (
             b"type n; const a : n; const q : n -> bool; goal g : true assume h : a;".as_slice(),
             67,
-            TheoryKind::NotBool,
         ),
     ];
-    assert!(rt; first_wrong(rt.alloc(), &cases) == None);
+    assert!(rt; first_wrong(rt.alloc(), TheoryKind::NotBool, &cases) == None);
     Ok(())
 }
 
@@ -291,7 +267,7 @@ fn assumptions(alloc: Global, then: &[u8]) -> Result<Bytes, NoMemory> {
 }
 
 #[test]
-fn numbers_are_limited(rt: HostRuntime) -> Result<(), Fail> {
+fn facts_are_limited(rt: HostRuntime) -> Result<(), Fail> {
     let alloc = rt.alloc();
     assert!(rt;
         reads(
@@ -315,6 +291,12 @@ fn numbers_are_limited(rt: HostRuntime) -> Result<(), Fail> {
             TheoryKind::Repeated
         )
     );
+    Ok(())
+}
+
+#[test]
+fn assumptions_are_limited(rt: HostRuntime) -> Result<(), Fail> {
+    let alloc = rt.alloc();
     assert!(rt; reads(alloc, assumptions(alloc, b"; fact h0 : true;")?.as_slice()));
     assert!(rt;
         faulty(
