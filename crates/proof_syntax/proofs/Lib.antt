@@ -1,0 +1,8 @@
+pub mod Cutting
+pub mod Inside
+pub mod Leads
+pub mod Numbers
+pub mod Complete
+pub mod Whole
+pub mod Stops
+pub mod Unique
