@@ -1,0 +1,13 @@
+pub mod FactNames
+pub mod StepTexts
+pub mod Joined
+pub mod Wordy
+pub mod Places
+pub mod Lying
+pub mod Naming
+pub mod TypesLie
+pub mod TermsLie
+pub mod StepsLie
+pub mod Checked
+pub mod ReadAgain
+pub mod Said

@@ -1,0 +1,4 @@
+pub mod Vocabularies
+pub mod Fitting
+pub mod Arguments
+pub mod Laws
