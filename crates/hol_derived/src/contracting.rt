@@ -69,7 +69,7 @@ fn lifted(log: &mut Log, t: &Term, eq: ThmId, side: u8) -> Result<ThmId, NoMemor
 
 /// `{} : t = s` for the contraction `s` of `t` at the path.
 #[cycle(contracts)]
-fn contraction(log: &mut Log, t: &Term, path: &[u8]) -> Result<ThmId, NoMemory>
+pub(crate) fn contraction(log: &mut Log, t: &Term, path: &[u8]) -> Result<ThmId, NoMemory>
     requires { IsGiven log.old.env.sig t.now (own_ty log.old.env.sig t.now) }
     ensures kept { Extends log.old log.new }
     ensures gives { IfOk result (λ th. Gives log.new th.0 (contraction_of log.old.env.sig path.now t.now)) }

@@ -1,6 +1,9 @@
-use Rattle.std.proofs.Common.{sym, ◌∙◌, ap}
-use Rattle.hol_terms.specs.Formulas.{is_formula}
+use Rattle.std.proofs.Common.{◌<◌, sym, subst}
+use Rattle.hol_terms.specs.Formulas.{IsFormula}
 use Rattle.hol_derived.proofs.tests.is_middle.Goals as goal
 
-pub excluded_middle-requires : goal.excluded_middle-requires
-excluded_middle-requires c = ap (λ e. is_formula e.sig c.args.formula.now) (sym c.env.ensures) ∙ sym c.in_ok-is_formula.ensures ∙ c.if-not-branch.false
+pub conclusion-requires : goal.conclusion-requires
+conclusion-requires c = subst (λ n. c.args.of.0 < n) c.len.ensures.theorems c.if-of-len.false
+
+pub excluded_middle-middle-requires : goal.excluded_middle-middle-requires
+excluded_middle-middle-requires c = subst (IsFormula c.args.log.now.env.sig) (sym c.in_ok-formula.ensures) c.conclusion.ensures.formula
