@@ -1,7 +1,10 @@
-mod Visibility
-mod Replying
-mod Counts
-mod Few
-mod Fetched
 mod Asking
-mod Faulted
+mod Counts
+mod Fetched
+mod Few
+mod Marking
+mod Options
+mod Replying
+mod Sooner
+mod Lookups
+mod Visibility

@@ -1,13 +1,23 @@
 -- A reply from what a call says of its status and its text.
 use Rattle.std.proofs.Common.{ℕ, ◌≡◌, List, Result, Ok, Err, sym, subst}
+use Rattle.std.specs.Prelude.{MatchOption, None, OnOk, Option, Some}
 use Rattle.std.specs.Result.{IfOk}
 use Rattle.text_kit.specs.declared.NoMemory.{NoMemory}
-use Rattle.sledge_engine.specs.Replies.{Outside, Told, Reply, Answered, told, cut_off}
+use Rattle.sledge_engine.specs.Files.{Outside}
+use Rattle.sledge_engine.specs.Replies.{Told, Reply, Answered, told, cut_off}
 use Rattle.sledge_engine.specs.Sinking.{IsPut, whole, part}
 
 pub if_ok_map : {T E : Type 0} (r : Result T E) (P Q : T → Type 0) → ((x : T) → P x → Q x) → IfOk r P → IfOk r Q
 if_ok_map (Ok x) P Q f h = f x h
 if_ok_map (Err e) P Q f h = tt
+
+pub on_ok_map : {T E : Type 0} (r : Result T E) (P Q : Type 0) → (P → Q) → OnOk r P → OnOk r Q
+on_ok_map (Ok x) P Q f h = f h
+on_ok_map (Err e) P Q f h = tt
+
+pub match_option_map : {T : Type 0} (o : Option T) (P R : Type 0) (Q S : T → Type 0) → (P → R) → ((x : T) → Q x → S x) → MatchOption o P Q → MatchOption o R S
+match_option_map None P R Q S none some h = none h
+match_option_map (Some x) P R Q S none some h = some x h
 
 -- `R status text` holds of the status and the text that a call gives
 pub reply_with : (R : ℕ → List ℕ → Type 0) (r : Result ℕ NoMemory) (status : ℕ) (text new : List ℕ) → R status text →

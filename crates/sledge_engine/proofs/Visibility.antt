@@ -1,11 +1,9 @@
--- Facts of the words looked at so far.
-use Rattle.std.proofs.Common.{ℕ, zero, suc, ◌≡◌, ◌∙◌, ◌+◌, ◌<◌, List, [], ◌∷◌, ◌++◌, length, take, drop, map, get_or, ap, sym, subst, arith, refl}
+-- Names of the words looked at so far.
+use Rattle.std.proofs.Common.{ℕ, zero, suc, ◌≡◌, ◌∙◌, ◌+◌, ◌<◌, false, List, [], ◌∷◌, ◌++◌, length, take, drop, map, get_or, ap, sym, subst, arith}
 use Rattle.std.specs.List.{All}
 use Rattle.std.proofs.lemmas.List.{take_more, drop_more, take-append-drop, map-append}
 use Rattle.std.proofs.lemmas.List.Elements.{All-append}
-use Rattle.std.specs.Prelude.{Option, Some, None, IsSome}
-use Rattle.theory_reader.specs.declared.theory.Theory.{Theory}
-use Rattle.sledge_engine.specs.Choice.{AllVisible, IsFirstHidden, place_seen}
+use Rattle.sledge_engine.specs.Choice.{AllNamed, IsFirstOther, is_named}
 
 one : {X : Type 0} (P : X → Type 0) (x : X) → P x → All P (x ∷ [])
 one P x p zero d k = p
@@ -26,11 +24,7 @@ split_words f ws i w lt is =
     ap (map f) (sym (take-append-drop i ws)) ∙ map-append f (take i ws) (drop i ws)
     ∙ ap (λ ts. map f (take i ws) ++ map f ts) (drop_more ws i w lt ∙ ap (λ x. x ∷ drop (i + 1) ws) (sym is))
 
-pub is_some : {X : Type 0} (o : Option X) (x : X) → o ≡ Some x → IsSome o
-is_some None x e = absurd cc
-is_some (Some y) x e = refl
-
-pub first_hidden_at : {X : Type 0} (f : X → List ℕ) (t : Theory) (goal : ℕ) (ws : List X) (i : ℕ) (w : X) → i < length ws → w ≡ get_or ws i w →
-    AllVisible t goal (map f (take i ws)) → place_seen t goal (f w) ≡ None → IsFirstHidden t goal (map f ws) (f w)
-first_hidden_at f t goal ws i w lt is all hidden =
-    record { before = map f (take i ws); rest = map f (drop (i + 1) ws); is = split_words f ws i w lt is; visible = all; hidden = hidden }
+pub first_other_at : {X : Type 0} (f : X → List ℕ) (there : List (List ℕ)) (ws : List X) (i : ℕ) (w : X) → i < length ws → w ≡ get_or ws i w →
+    AllNamed there (map f (take i ws)) → is_named there (f w) ≡ false → IsFirstOther there (map f ws) (f w)
+first_other_at f there ws i w lt is all other =
+    record { before = map f (take i ws); rest = map f (drop (i + 1) ws); is = split_words f ws i w lt is; named = all; other = other }

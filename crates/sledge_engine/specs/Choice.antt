@@ -1,5 +1,5 @@
 -- The facts that a command names.
-use Rattle.std.specs.Prelude.{ℕ, ◌≡◌, ◌+◌, Bool, if◌then◌else◌, IsSome, List, [], ◌∷◌, ◌++◌, Option, None, map, filter, All}
+use Rattle.std.specs.Prelude.{ℕ, ◌≡◌, ◌+◌, Bool, false, IsTrue, if◌then◌else◌, List, [], ◌∷◌, ◌++◌, Option, map, filter, All}
 use Rattle.std.specs.List.{list_any, position}
 use Rattle.std.specs.Str.{bytes_eq}
 use Rattle.theory_reader.specs.declared.theory.Theory.{Theory}
@@ -7,7 +7,7 @@ use Rattle.theory_reader.specs.Visible.{visible}
 
 -- the name is one of these
 abbrev pub is_named : List (List ℕ) → List ℕ → Bool
-is_named names name = list_any (λ n. bytes_eq n name) names
+is_named names name = list_any (bytes_eq name) names
 
 -- the places, counted from `i`, of the facts with one of these names
 abbrev pub places_from : ℕ → List (List ℕ) → List (List ℕ) → List ℕ
@@ -26,22 +26,26 @@ chosen names t goal = places_from 0 names (seen t goal)
 abbrev pub chosen_names : List (List ℕ) → Theory → ℕ → List (List ℕ)
 chosen_names names t goal = filter (is_named names) (seen t goal)
 
--- where the goal finds the name
-abbrev pub place_seen : Theory → ℕ → List ℕ → Option ℕ
-place_seen t goal name = position (λ f. bytes_eq name f.name) (visible t goal)
-
 -- the number of the goal of this name
 abbrev pub goal_place : Theory → List ℕ → Option ℕ
 goal_place t name = position (λ g. bytes_eq name g.name) t.goals
 
--- each name is that of a fact which the goal may be proved from
-abbrev pub AllVisible : Theory → ℕ → List (List ℕ) → Type 0
-AllVisible t goal names = All (λ name. IsSome (place_seen t goal name)) names
+-- each name is one of these
+abbrev pub AllNamed : List (List ℕ) → List (List ℕ) → Type 0
+AllNamed there names = All (λ name. IsTrue (is_named there name)) names
 
 -- the first name that isn't
-pub record IsFirstHidden (t : Theory) (goal : ℕ) (names : List (List ℕ)) (name : List ℕ) : Type 0 where
+pub record IsFirstOther (there names : List (List ℕ)) (name : List ℕ) : Type 0 where
   pub before : List (List ℕ)
   pub rest : List (List ℕ)
   pub is : names ≡ before ++ name ∷ rest
-  pub visible : AllVisible t goal before
-  pub hidden : place_seen t goal name ≡ None
+  pub named : AllNamed there before
+  pub other : is_named there name ≡ false
+
+-- each name is that of a fact which the goal may be proved from
+abbrev pub AllVisible : Theory → ℕ → List (List ℕ) → Type 0
+AllVisible t goal names = AllNamed (seen t goal) names
+
+-- the first name that isn't
+abbrev pub IsFirstHidden : Theory → ℕ → List (List ℕ) → List ℕ → Type 0
+IsFirstHidden t goal names name = IsFirstOther (seen t goal) names name

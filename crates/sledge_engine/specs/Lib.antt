@@ -1,8 +1,12 @@
 pub mod Words
 pub mod Texts
 pub mod Choice
+pub mod Lookups
 pub mod Built
 pub mod Proofs
+pub mod Used
+pub mod Marks
+pub mod Files
 pub mod Replies
 pub mod Shown
 pub mod Fetches

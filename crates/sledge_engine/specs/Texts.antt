@@ -61,3 +61,12 @@ spaced names = flat_map (λ name. 32 ∷ name) names
 
 abbrev pub metis_text : List (List ℕ) → List ℕ
 metis_text names = around (codes "proof: by metis") (spaced names) (codes "\n")
+
+abbrev pub byte_text : ℕ → List ℕ
+byte_text at = around (codes "refused: byte ") (decimal at) (codes "\n")
+
+abbrev pub step_text : ℕ → List ℕ
+step_text at = around (codes "refused: step ") (decimal at) (codes "\n")
+
+abbrev pub checked_text : List ℕ → List (List ℕ) → List ℕ
+checked_text goal names = around (codes "checked: ") goal (around (codes " from") (spaced names) (codes "\n"))

@@ -1,12 +1,9 @@
-ghost use Rattle.std.specs.Prelude.{IfOk};
+ghost use Rattle.std.specs.Prelude.{◌≡◌, ◌<◌, ◌≤◌, ◌^◌, IfOk};
 ghost use Rattle.sledge_engine.specs.Fetches.{IsFetch, IsWithin, outside};
 
 use race_outside::{FetchFault, Shelf};
 use std::alloc::Global;
 use text_kit::{Bytes, NoMemory};
-
-/// The greatest number of bytes of a file.
-const MAX_BYTES: u64 = 16_777_216;
 
 /// What a fetch of a file gives.
 #[derive(Drop)]
@@ -17,27 +14,32 @@ pub(crate) enum Fetch {
 }
 
 /// The bytes of a file, where they are within the limit.
-fn within(bytes: Bytes) -> Fetch
-    ensures { IsWithin bytes result }
+fn within(bytes: Bytes, limit: u64) -> Fetch
+    ensures { IsWithin limit bytes result }
 {
-    if bytes.len() > MAX_BYTES as usize {
+    if bytes.len() as u64 > limit {
         Fetch::TooLong
     } else {
         Fetch::Whole(bytes)
     }
 }
 
-/// Fetches a file.
+/// Fetches a file of at most so many bytes.
 pub(crate) fn fetch_file<H: Shelf>(
     alloc: Global,
     name: &str,
+    limit: u64,
     shelf: &mut H,
 ) -> Result<Fetch, NoMemory>
-    ensures { IfOk result (IsFetch (outside (H.held shelf.old) (H.sure shelf.old) (H.faults shelf.old) (H.faults shelf.new)) name.now) }
+    requires { limit < 2 ^ 32 }
+    ensures file { IfOk result (IsFetch (outside (H.held shelf.old) (H.sure shelf.old) (H.faults shelf.old) (H.faults shelf.new)) name.now limit) }
+    ensures held { H.held shelf.new ≡ H.held shelf.old }
+    ensures sure { H.sure shelf.new ≡ H.sure shelf.old }
+    ensures later { H.faults shelf.old ≤ H.faults shelf.new }
 {
     let mut bytes = Bytes::begin(alloc);
-    match shelf.fetch(name, MAX_BYTES, &mut bytes) {
-        Ok(()) => Ok(within(bytes)),
+    match shelf.fetch(name, limit, &mut bytes) {
+        Ok(()) => Ok(within(bytes, limit)),
         Err(FetchFault::Failed) => Ok(Fetch::Failed),
         Err(FetchFault::NoMemory) => Err(NoMemory),
     }

@@ -22,42 +22,59 @@ fn words(alloc: Global, line: &[&str]) -> Result<Vec<String>, NoMemory> {
     Ok(words)
 }
 
-/// A shelf that holds a theory under the name `T`.
-fn shelf(alloc: Global, theory: &[u8]) -> Result<SureShelf, NoMemory> {
-    let name = Bytes::from_slice(alloc, b"T")?;
-    let bytes = Bytes::from_slice(alloc, theory)?;
+fn held(alloc: Global, name: &[u8], bytes: &[u8]) -> Result<Held, NoMemory> {
+    let name = Bytes::from_slice(alloc, name)?;
+    let bytes = Bytes::from_slice(alloc, bytes)?;
+    Ok(Held { name, bytes })
+}
+
+/// A shelf that holds a theory under the name `T` and a proof file under `P`.
+fn shelf(alloc: Global, theory: &[u8], proof: &[u8]) -> Result<SureShelf, NoMemory> {
     let mut files = Rows::begin(alloc);
-    files.push(Held { name, bytes })?;
+    files.push(held(alloc, b"T", theory)?)?;
+    files.push(held(alloc, b"P", proof)?)?;
     Ok(SureShelf::begin(files))
 }
 
-/// Whether this line is answered with this status and this text.
+/// The status and the text of the answer to a line.
 #[tactic(none)]
+fn told(
+    alloc: Global,
+    theory: &[u8],
+    proof: &[u8],
+    line: &[&str],
+) -> Result<(u8, Bytes), NoMemory> {
+    let words = words(alloc, line)?;
+    let mut shelf = shelf(alloc, theory, proof)?;
+    let mut out = MemorySink::begin(alloc, Rows::begin(alloc));
+    let status = answer(alloc, words.as_slice(), &mut shelf, &mut out);
+    Ok((status, out.taken().copy(alloc)?))
+}
+
+/// Whether this line is answered with this status and this text.
 fn says(
     alloc: Global,
     theory: &[u8],
+    proof: &[u8],
     line: &[&str],
     status: u8,
     text: &[u8],
 ) -> Result<bool, NoMemory> {
-    let words = words(alloc, line)?;
-    let mut shelf = shelf(alloc, theory)?;
-    let mut out = MemorySink::begin(alloc, Rows::begin(alloc));
-    let given = answer(alloc, words.as_slice(), &mut shelf, &mut out);
-    Ok(given == status && out.taken().as_slice() == text)
+    let (given, out) = told(alloc, theory, proof, line)?;
+    Ok(given == status && out.as_slice() == text)
 }
 
 /// The status where the sink fails at its first put.
 fn status_over_failing_sink(alloc: Global) -> Result<u8, NoMemory> {
     let words = words(alloc, &["metis", "T", "g", "f1", "f2"])?;
-    let mut shelf = shelf(alloc, IMPLIED)?;
+    let mut shelf = shelf(alloc, IMPLIED, b"")?;
     let mut fails = Rows::begin(alloc);
     fails.push(0)?;
     let mut out = MemorySink::begin(alloc, fails);
     Ok(answer(alloc, words.as_slice(), &mut shelf, &mut out))
 }
 
-/// A theory, the words behind `metis T`, and what is answered.
+/// A theory, a line, and what is answered.
 #[derive(Clone, Copy, Drop)]
 struct Case<'a> {
     theory: &'a [u8],
@@ -66,7 +83,7 @@ struct Case<'a> {
     text: &'a [u8],
 }
 
-const CASES: [Case; 16] = [
+const CASES: [Case; 25] = [
     Case {
         theory: IMPLIED,
         line: &["metis", "T", "g", "f1", "f2"],
@@ -163,12 +180,192 @@ const CASES: [Case; 16] = [
         status: 2,
         text: b"fault: usage\n",
     },
+    Case {
+        theory: IMPLIED,
+        line: &["metis", "--proof", "T", "g"],
+        status: 2,
+        text: b"fault: usage\n",
+    },
+    Case {
+        theory: IMPLIED,
+        line: &["metis", "T", "g", "f1", "--proof", "f2"],
+        status: 2,
+        text: b"fault: usage\n",
+    },
+    Case {
+        theory: IMPLIED,
+        line: &["check", "T"],
+        status: 2,
+        text: b"fault: usage\n",
+    },
+    Case {
+        theory: IMPLIED,
+        line: &["check", "T", "P", "--proof"],
+        status: 2,
+        text: b"fault: usage\n",
+    },
+    Case {
+        theory: IMPLIED,
+        line: &["check", "T", "-"],
+        status: 2,
+        text: b"fault: usage\n",
+    },
+    Case {
+        theory: IMPLIED,
+        line: &["check", "TB", "Q"],
+        status: 3,
+        text: b"fault: file TB\n",
+    },
+    Case {
+        theory: IMPLIED,
+        line: &["check", "T", "Q"],
+        status: 3,
+        text: b"fault: file Q\n",
+    },
+    Case {
+        theory: b"const p : bool goal g : p;",
+        line: &["check", "T", "Q"],
+        status: 4,
+        text: b"fault: theory at 15: syntax\n",
+    },
+    Case {
+        theory: b"const p : bool; goal g : p;",
+        line: &["metis", "T", "g", "--proof"],
+        status: 1,
+        text: b"proof: not found (saturated)\n",
+    },
 ];
 
 /// Whether each line is answered as the table says.
 fn all_say(alloc: Global, cases: &[Case]) -> Result<bool, NoMemory> {
     for case in cases {
-        if !says(alloc, case.theory, case.line, case.status, case.text)? {
+        if !says(alloc, case.theory, b"", case.line, case.status, case.text)? {
+            return Ok(false);
+        }
+    }
+    Ok(true)
+}
+
+/// A proof of the goal of `IMPLIED`.
+const PROOF: &[u8] =
+    b"sledge proof 1\ngoal g\n0 fact f1\n1 fact f2\n2 assume (not .p)\n3 notelim 2 0\n4 classical .q 3\n5 assume .q\n6 orelim 1 4 5\nend\n";
+
+/// A proof file beside `IMPLIED`, and what `check T P` answers.
+#[derive(Clone, Copy, Drop)]
+struct ProofCase<'a> {
+    proof: &'a [u8],
+    status: u8,
+    text: &'a [u8],
+}
+
+const PROOFS: [ProofCase; 9] = [
+    ProofCase {
+        proof: PROOF,
+        status: 0,
+        text: b"checked: g from f1 f2\n",
+    },
+    ProofCase {
+        proof: b"sledge proof 1\ngoal g\n0 fact f1\n1 fact f2\n2 assume (not .p)\n3 notelim 2 1\n4 classical .q 3\n5 assume .q\n6 orelim 1 4 5\nend\n",
+        status: 7,
+        text: b"refused: step 3\n",
+    },
+    ProofCase {
+        proof: b"sledge proof 1\ngoal g\n0 fact f1\n1 fact f2\n2 assume (not .p)\n3 notelim 2 4\n4 fact f1\n5 assume .q\n6 orelim 1 4 5\nend\n",
+        status: 7,
+        text: b"refused: step 3\n",
+    },
+    ProofCase {
+        proof: b"sledge proof 1\ngoal g\n0 fact f1\n1 fact f2\n2 assume (not .p)\n3 notelim 2 0\n4 classical .q 3\n5 assume .q\nend\n",
+        status: 7,
+        text: b"refused: step 6\n",
+    },
+    ProofCase {
+        proof: b"sledge proof 1\ngoal g\n0 fact f1\n1 fact f2\n2 assume (not .p)\n3 notelim 2 0\n4 classical .q 3\n5 assume .q\n6 orelim 1 4 5\n",
+        status: 7,
+        text: b"refused: byte 118\n",
+    },
+    ProofCase {
+        proof: b"sledge proof 1\ngoal g\nend\n",
+        status: 7,
+        text: b"refused: step 0\n",
+    },
+    ProofCase {
+        proof: b"sledge proof 1\ngoal g\nend\n\n",
+        status: 7,
+        text: b"refused: byte 26\n",
+    },
+    ProofCase {
+        proof: b"sledge proof 1\ngoal g\n0 fact f9\nend\n",
+        status: 7,
+        text: b"refused: byte 29\n",
+    },
+    ProofCase {
+        proof: b"goal g\n",
+        status: 7,
+        text: b"refused: byte 7\n",
+    },
+];
+
+/// Whether each proof file is answered as the table says.
+fn all_are_checked(alloc: Global, cases: &[ProofCase]) -> Result<bool, NoMemory> {
+    for case in cases {
+        if !says(
+            alloc,
+            IMPLIED,
+            case.proof,
+            &["check", "T", "P"],
+            case.status,
+            case.text,
+        )? {
+            return Ok(false);
+        }
+    }
+    Ok(true)
+}
+
+/// A theory, the words of `metis` that show a proof, how the output begins, and what `check` says to it.
+#[derive(Clone, Copy, Drop)]
+struct ShownCase<'a> {
+    theory: &'a [u8],
+    line: &'a [&'a str],
+    begins: &'a [u8],
+    checked: &'a [u8],
+}
+
+const SHOWN: [ShownCase; 2] = [
+    ShownCase {
+        theory: IMPLIED,
+        line: &["metis", "T", "g", "f1", "f2", "--proof"],
+        begins: b"proof: by metis f1 f2\nsledge proof 1\ngoal g\n0 ",
+        checked: b"checked: g from f1 f2\n",
+    },
+    ShownCase {
+        theory: b"const p : bool; const q : bool; fact f : ~p | q; goal g : q assume h : p; goal k : q;",
+        line: &["metis", "T", "g", "h", "f", "--proof"],
+        begins: b"proof: by metis f h\nsledge proof 1\ngoal g\n0 ",
+        checked: b"checked: g from f h\n",
+    },
+];
+
+/// Whether `check` accepts all that `metis` prints with `--proof`.
+fn is_checked_again(alloc: Global, case: &ShownCase) -> Result<bool, NoMemory> {
+    let (found, shown) = told(alloc, case.theory, b"", case.line)?;
+    let begins = found == 0 && shown.as_slice().starts_with(case.begins);
+    let again = says(
+        alloc,
+        case.theory,
+        shown.as_slice(),
+        &["check", "T", "P"],
+        0,
+        case.checked,
+    )?;
+    Ok(begins && again)
+}
+
+/// Whether each shown proof is accepted.
+fn all_are_checked_again(alloc: Global, cases: &[ShownCase]) -> Result<bool, NoMemory> {
+    for case in cases {
+        if !is_checked_again(alloc, case)? {
             return Ok(false);
         }
     }
@@ -180,5 +377,13 @@ fn answers(rt: HostRuntime) -> Result<(), Fail> {
     let alloc = rt.alloc();
     assert!(rt; all_say(alloc, &CASES)?);
     assert_eq!(rt; status_over_failing_sink(alloc)?, 5);
+    Ok(())
+}
+
+#[test]
+fn checks_proofs(rt: HostRuntime) -> Result<(), Fail> {
+    let alloc = rt.alloc();
+    assert!(rt; all_are_checked(alloc, &PROOFS)?);
+    assert!(rt; all_are_checked_again(alloc, &SHOWN)?);
     Ok(())
 }

@@ -20,8 +20,9 @@ fn put_text<S: Sink>(out: &mut S, text: &[u8], status: u8) -> u8
 
 /// Answers the words of a command that waits for nobody, and gives the exit status.
 ///
-/// Today this is `metis THEORY GOAL FACT..`: whether the named facts prove the goal. The theory is fetched from the
-/// shelf and the text is put into the sink, whole before its first byte.
+/// These are `metis THEORY GOAL FACT.. [--proof]`: whether the named facts prove the goal; `check THEORY PROOF`: whether a
+/// proof file proves its goal; and `gen N`: a theory to try things on. Files are fetched from the shelf, and the text is put
+/// into the sink, whole before its first byte.
 pub fn answer<H: Shelf, S: Sink>(alloc: Global, words: &[String], shelf: &mut H, out: &mut S) -> u8
     // Each status has its cause, and the sink took the text that goes with it; want of memory alone is free.
     ensures answered { Answered (map string_bytes words.now) (outside (H.held shelf.old) (H.sure shelf.old) (H.faults shelf.old) (H.faults shelf.new)) (told_by (S.taken out.old) (S.taken out.new) (S.faults out.old) (S.faults out.new)) result }

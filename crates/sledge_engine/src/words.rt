@@ -1,15 +1,24 @@
 ghost use Rattle.std.specs.Prelude.{◌≡◌, ◌↔◌, ◌≤◌, ◌<◌, ◌^◌, ℕ, Some, None, decimal, map, IfSome, IsTrue, MatchOption, string_bytes};
 ghost use Rattle.std.specs.List.{list_all};
-ghost use Rattle.sledge_engine.specs.Words.{line_of, is_plain, IsGen};
+ghost use Rattle.sledge_engine.specs.Words.{metis_of, check_of, is_plain, before_option, ends_in_option, IsGen};
 
 use itoa::Buffer;
 
 /// What `metis` is asked, lent from the words.
 #[derive(Clone, Copy, Drop)]
-pub(crate) struct Line<'w> {
+pub(crate) struct MetisLine<'w> {
     pub theory: &'w str,
     pub goal: &'w str,
     pub facts: &'w [String],
+    /// Whether the proof is to be shown.
+    pub shows: bool,
+}
+
+/// What `check` is asked, lent from the words.
+#[derive(Clone, Copy, Drop)]
+pub(crate) struct CheckLine<'w> {
+    pub theory: &'w str,
+    pub proof: &'w str,
 }
 
 fn is_plain_word(word: &str) -> bool
@@ -32,21 +41,62 @@ fn are_plain(words: &[String]) -> bool
     true
 }
 
-/// The line of the words, where they are one.
-pub(crate) fn read_line(words: &[String]) -> Option<Line<'_>>
-    ensures { MatchOption result (line_of (map string_bytes words.now) ≡ None) (λ l. line_of (map string_bytes words.now) ≡ Some (record { theory = l.theory.now; goal = l.goal.now; facts = map string_bytes l.facts.now })) }
+/// The words without a last `--proof`, and whether there is one.
+fn split_option(words: &[String]) -> (&[String], bool)
+    ensures before { map string_bytes result.0.now ≡ before_option (map string_bytes words.now) }
+    ensures ends { result.1 ≡ ends_in_option (map string_bytes words.now) }
 {
     match words {
-        [command, theory, goal, facts @ ..] => {
+        [before @ .., last] => {
+            if last.as_str() == "--proof" {
+                (before, true)
+            } else {
+                (words, false)
+            }
+        }
+        [] => (words, false),
+    }
+}
+
+/// The line of `metis` that the words are, where they are one.
+pub(crate) fn read_metis(words: &[String]) -> Option<MetisLine<'_>>
+    ensures { MatchOption result (metis_of (map string_bytes words.now) ≡ None) (λ l. metis_of (map string_bytes words.now) ≡ Some (record { theory = l.theory.now; goal = l.goal.now; facts = map string_bytes l.facts.now; shows = l.shows })) }
+{
+    match words {
+        [command, theory, goal, more @ ..] => {
+            let (facts, shows) = split_option(more);
             if command.as_str() == "metis"
                 && is_plain_word(theory.as_str())
                 && is_plain_word(goal.as_str())
                 && are_plain(facts)
             {
-                Some(Line {
+                Some(MetisLine {
                     theory: theory.as_str(),
                     goal: goal.as_str(),
                     facts,
+                    shows,
+                })
+            } else {
+                None
+            }
+        }
+        _ => None,
+    }
+}
+
+/// The line of `check` that the words are, where they are one.
+pub(crate) fn read_check(words: &[String]) -> Option<CheckLine<'_>>
+    ensures { MatchOption result (check_of (map string_bytes words.now) ≡ None) (λ l. check_of (map string_bytes words.now) ≡ Some (record { theory = l.theory.now; proof = l.proof.now })) }
+{
+    match words {
+        [command, theory, proof] => {
+            if command.as_str() == "check"
+                && is_plain_word(theory.as_str())
+                && is_plain_word(proof.as_str())
+            {
+                Some(CheckLine {
+                    theory: theory.as_str(),
+                    proof: proof.as_str(),
                 })
             } else {
                 None

@@ -1,35 +1,38 @@
-use Rattle.std.proofs.Common.{subst, sym}
+use Rattle.std.proofs.Common.{ℕ, subst}
+use Rattle.sledge_engine.specs.declared.fetching.Fetch.TheVariants.{TooLong, Failed}
 use Rattle.sledge_engine.specs.Fetches.{IsFetch}
-use Rattle.sledge_engine.specs.Shown.{line_shown}
-use Rattle.sledge_engine.specs.Replies.{LineReply, Outside, TheoryReply, no_file, long_file, fetched}
-use Rattle.sledge_engine.specs.Texts.{file_text, long_file_text}
-use Rattle.sledge_engine.proofs.Replying.{if_ok_map, reply_with}
+use Rattle.sledge_engine.specs.Files.{FileRefusal, Outside, most_proof_bytes}
+use Rattle.sledge_engine.specs.Replies.{ProofFileReply, ProofReply, no_proof, proof}
+use Rattle.sledge_engine.proofs.Replying.{if_ok_map}
 use Rattle.sledge_engine.proofs.commands.answer_fetched.Goals as goal
 
 pub returns-in-Whole : goal.returns-in-Whole
 returns-in-Whole c =
-    let line = line_shown c.args.line in
-    let text = c.answer_theory.new.text in
-    if_ok_map c.answer_theory.result (λ status. TheoryReply c.as_slice.result.now line status text)
-    (λ status. (o : Outside) → IsFetch o line.theory c.args.fetched → LineReply o line status text)
-    (λ status h o f. let whole = subst (IsFetch o line.theory) c.in-Whole.is f in
-    fetched c.in-Whole.bytes status text whole.0 whole.1 (subst (λ bytes. TheoryReply bytes line status text) c.as_slice.ensures h))
-    c.answer_theory.ensures
+    let t = c.args.theory.now in
+    let name = c.args.name.now in
+    let text = c.answer_proof.new.text in
+    if_ok_map c.answer_proof.result (λ status. ProofReply t c.as_slice.result.now status text)
+    (λ status. (o : Outside) → IsFetch o name most_proof_bytes c.args.fetched → ProofFileReply o t name status text)
+    (λ status h o f. proof c.in-Whole.bytes status text (subst (IsFetch o name most_proof_bytes) c.in-Whole.is f)
+    (subst (λ bytes. ProofReply t bytes status text) c.as_slice.ensures h))
+    c.answer_proof.ensures
 
 pub returns-in-TooLong : goal.returns-in-TooLong
 returns-in-TooLong c =
-    let line = line_shown c.args.line in
-    reply_with (λ status text. (o : Outside) → IsFetch o line.theory c.args.fetched → LineReply o line status text) c.put_refusal.result 3
-    (long_file_text c.as_bytes.result.now) c.put_refusal.new.text
-    (λ o f. let long = subst (IsFetch o line.theory) c.in-TooLong.is f in
-    subst (λ name. LineReply o line 3 (long_file_text name)) (sym c.as_bytes.ensures.value) (long_file long.0 long.1 long.2))
-    c.put_refusal.ensures
+    let t = c.args.theory.now in
+    let name = c.args.name.now in
+    let text = c.put_long.new.text in
+    if_ok_map c.put_long.result (λ status. (o : Outside) (limit : ℕ) → IsFetch o name limit TooLong → FileRefusal o name limit status text)
+    (λ status. (o : Outside) → IsFetch o name most_proof_bytes c.args.fetched → ProofFileReply o t name status text)
+    (λ status h o f. no_proof status text (h o most_proof_bytes (subst (IsFetch o name most_proof_bytes) c.in-TooLong.is f)))
+    c.put_long.ensures
 
 pub returns-in-Failed : goal.returns-in-Failed
 returns-in-Failed c =
-    let line = line_shown c.args.line in
-    reply_with (λ status text. (o : Outside) → IsFetch o line.theory c.args.fetched → LineReply o line status text) c.put_refusal-in-Failed.result 3
-    (file_text c.as_bytes-in-Failed.result.now) c.put_refusal-in-Failed.new.text
-    (λ o f. let absent = subst (IsFetch o line.theory) c.in-Failed.is f in
-    subst (λ name. LineReply o line 3 (file_text name)) (sym c.as_bytes-in-Failed.ensures.value) (no_file absent))
-    c.put_refusal-in-Failed.ensures
+    let t = c.args.theory.now in
+    let name = c.args.name.now in
+    let text = c.put_missing.new.text in
+    if_ok_map c.put_missing.result (λ status. (o : Outside) (limit : ℕ) → IsFetch o name limit Failed → FileRefusal o name limit status text)
+    (λ status. (o : Outside) → IsFetch o name most_proof_bytes c.args.fetched → ProofFileReply o t name status text)
+    (λ status h o f. no_proof status text (h o most_proof_bytes (subst (IsFetch o name most_proof_bytes) c.in-Failed.is f)))
+    c.put_missing.ensures

@@ -16,5 +16,5 @@ returns-in-None c =
     let t = a.theory.now in
     let g = c.at.result.now in
     let name = unbuilt_goal a c.requires.asked g c.requires.facts c.at.ensures (lacks _ (sym c.in_ok-goal.ensures.found ∙ c.in-None.is)) in
-    reply_with (GoalReply t a.goal (said a)) c.put_refusal.result 4 (not_built_text c.as_slice-name.result.now) c.put_refusal.new.text
-    (subst (λ n. GoalReply t a.goal (said a) 4 (not_built_text n)) (sym c.as_slice-name.ensures) (not_built g.name name)) c.put_refusal.ensures
+    reply_with (GoalReply t a.goal (said a) a.shows) c.put_refusal.result 4 (not_built_text c.as_slice-name.result.now) c.put_refusal.new.text
+    (subst (λ n. GoalReply t a.goal (said a) a.shows 4 (not_built_text n)) (sym c.as_slice-name.ensures) (not_built g.name name)) c.put_refusal.ensures

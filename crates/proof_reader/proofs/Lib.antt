@@ -1,0 +1,10 @@
+pub mod Refuses
+pub mod ArgPieces
+pub mod RulePieces
+pub mod WordPieces
+pub mod StepPieces
+pub mod AllPieces
+pub mod NamePieces
+pub mod StartPieces
+pub mod BodyPieces
+pub mod TextPieces

@@ -1,0 +1,78 @@
+-- Tables of names.
+use Rattle.std.proofs.Common.{ℕ, ◌≡◌, ◌∙◌, ◌+◌, ◌<◌, Bool, true, false, List, [], ◌∷◌, ◌++◌, length, take, map, get_or, refl, sym, ap, subst}
+use Rattle.std.specs.Prelude.{Option, Some, None, is_some, option_map, filter, IsTrue}
+use Rattle.std.specs.List.{list_any, position}
+use Rattle.std.specs.Prelude.{◌||◌}
+use Rattle.std.specs.Str.{bytes_eq}
+use Rattle.std.proofs.lemmas.List.{take_more, map-append}
+use Rattle.std.proofs.lemmas.List.Folds.{list_any-append}
+use Rattle.std.proofs.lemmas.Slice.Eq.{bytes_eq-Decides}
+use Rattle.theory_terms.specs.Words.{place}
+use Rattle.theory_terms.proofs.Places.{at_first, at_rest}
+use Rattle.sledge_engine.specs.Choice.{is_named, places_from, AllNamed, IsFirstOther}
+use Rattle.sledge_engine.specs.Lookups.{Finds, Adds}
+
+is_some_map : {X Y : Type 0} (f : X → Y) (o : Option X) → is_some (option_map f o) ≡ is_some o
+is_some_map f None = refl
+is_some_map f (Some x) = refl
+
+module _ {X : Type 0} (p : X → Bool) where
+  step : (x : X) (xs : List X) (b : Bool) → p x ≡ b → is_some (position p xs) ≡ list_any p xs → is_some (position p (x ∷ xs)) ≡ (b || list_any p xs)
+  step x xs true e rest = ap is_some (at_first p x xs e)
+  step x xs false e rest = ap is_some (at_rest p x xs e) ∙ is_some_map (λ i. i + 1) (position p xs) ∙ rest
+
+  -- a place is found exactly where an item passes
+  pub some_position : (xs : List X) → is_some (position p xs) ≡ list_any p xs
+  some_position [] = refl
+  some_position (x ∷ xs) = step x xs (p x) refl (some_position xs)
+
+pub placed : (names : List (List ℕ)) (name : List ℕ) → is_some (place name names) ≡ is_named names name
+placed names name = some_position (bytes_eq name) names
+
+or_false : (a : Bool) → (a || false) ≡ a
+or_false true = refl
+or_false false = refl
+
+or_true : (a b : Bool) → a ≡ true → (a || b) ≡ true
+or_true true b e = refl
+or_true false b e = absurd cc
+
+module _ (names : List (List ℕ)) (name : List ℕ) (there : is_named names name ≡ true) where
+  again : (x : List ℕ) (b : Bool) → bytes_eq x name ≡ b → (is_named names x || (b || false)) ≡ is_named names x
+  again x true e =
+      let same : x ≡ name = (bytes_eq-Decides x name).0 e in
+      let known : is_named names x ≡ true = ap (is_named names) same ∙ there in
+      or_true (is_named names x) (true || false) known ∙ sym known
+  again x false e = or_false (is_named names x)
+
+  -- a name that is there already makes no difference
+  pub adds_none : Adds names names name
+  adds_none x = sym (list_any-append (bytes_eq x) names (name ∷ []) ∙ again x (bytes_eq x name) refl)
+
+pub adds_one : (old new : List (List ℕ)) (name : List ℕ) → new ≡ old ++ name ∷ [] → Adds old new name
+adds_one old new name is x = ap (λ names. is_named names x) is
+
+-- the table has found the first words, and one more is added
+pub finds_more : {X : Type 0} (f : X → List ℕ) (words : List X) (i : ℕ) (w : X) (old new : List (List ℕ)) → i < length words → w ≡ get_or words i w →
+    Finds (map f (take i words)) old → Adds old new (f w) → Finds (map f (take (i + 1) words)) new
+finds_more f words i w old new lt is found adds x =
+    let longer = ap (map f) (take_more words i w lt ∙ ap (λ y. take i words ++ y ∷ []) (sym is)) ∙ map-append f (take i words) (w ∷ []) in
+    adds x ∙ list_any-append (bytes_eq x) old (f w ∷ []) ∙ ap (λ b. b || list_any (bytes_eq x) (f w ∷ [])) (found x)
+    ∙ sym (list_any-append (bytes_eq x) (map f (take i words)) (f w ∷ [])) ∙ sym (ap (λ names. is_named names x) longer)
+
+module _ (names table : List (List ℕ)) (found : Finds names table) where
+  -- what is asked of the table is asked of the names
+  pub same_places : (i : ℕ) (there : List (List ℕ)) → places_from i table there ≡ places_from i names there
+  same_places i [] = refl
+  same_places i (x ∷ there) = rw (found x, same_places (i + 1) there)
+
+  pub same_filter : (there : List (List ℕ)) → filter (is_named table) there ≡ filter (is_named names) there
+  same_filter [] = refl
+  same_filter (x ∷ there) = rw (found x, same_filter there)
+
+  pub same_all : (words : List (List ℕ)) → AllNamed table words → AllNamed names words
+  same_all words all i d lt = subst IsTrue (found (get_or words i d)) (all i d lt)
+
+  pub same_other : (words : List (List ℕ)) (w : List ℕ) → IsFirstOther table words w → IsFirstOther names words w
+  same_other words w first =
+      record { before = first.before; rest = first.rest; is = first.is; named = same_all first.before first.named; other = sym (found w) ∙ first.other }
