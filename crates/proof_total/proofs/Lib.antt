@@ -1,0 +1,10 @@
+pub mod Found
+pub mod Rules
+pub mod Numbers
+pub mod Reached
+pub mod Keeps
+pub mod Begins
+pub mod Words
+pub mod Starts
+pub mod Bodies
+pub mod Exists
