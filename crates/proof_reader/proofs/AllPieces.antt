@@ -1,5 +1,5 @@
 -- The ways out of the reader of all steps.
-use Rattle.std.proofs.Common.{◌≡◌, ◌⊎◌, inl, inr, ℕ, ◌+◌, ◌<◌, List, [], ◌∷◌, ◌++◌, length, decimal, codes, None, refl, sym, ap, subst, append_assoc, append-nil, ◌∙◌, arith, length-append}
+use Rattle.std.proofs.Common.{◌≡◌, inl, inr, ℕ, ◌+◌, ◌<◌, List, [], ◌∷◌, ◌++◌, length, decimal, codes, None, refl, sym, ap, subst, append_assoc, append-nil, ◌∙◌, arith, length-append}
 use Rattle.first_fault.specs.Levels.{Within}
 use Rattle.first_fault.proofs.Fronts.{put-append, within-append}
 use Rattle.kernel_rules.specs.declared.step.Step.{Step}
@@ -15,7 +15,6 @@ use Rattle.proof_syntax.proofs.Inside.{inside, here, here_in, Refuses, refuses_b
 use Rattle.proof_syntax.proofs.Leads.{Leads, leads_on, leads_both, leads_last}
 use Rattle.proof_syntax.proofs.Numbers.{eq_false}
 use Rattle.proof_syntax.proofs.Complete.{start_step, start_end}
-use Rattle.proof_syntax.specs.Parts.{IsNot}
 use Rattle.proof_reader.specs.Words.{Other, FailsWord, FailsLast, openings}
 use Rattle.proof_reader.specs.Parts.{GotStep, BegunStep, FailsStep, StepsSoFar, GotSteps, BegunSteps, first_step, FailsSteps}
 use Rattle.proof_reader.proofs.Refuses.{refuses_signs}

@@ -1,5 +1,5 @@
 -- The ways out of the readers of arguments.
-use Rattle.std.proofs.Common.{◌≡◌, ◌⊎◌, inl, inr, ℕ, ◌+◌, ◌<◌, List, [], ◌∷◌, ◌++◌, map, length, decimal, Some, None, refl, sym, ap, subst, append_assoc, ◌∙◌, arith}
+use Rattle.std.proofs.Common.{◌≡◌, inl, inr, ℕ, ◌<◌, List, [], ◌∷◌, ◌++◌, map, length, decimal, None, refl, sym, ap, subst, append_assoc, ◌∙◌, arith}
 use Rattle.first_fault.specs.Levels.{Within}
 use Rattle.first_fault.proofs.Fronts.{put-append, within-append}
 use Rattle.hol_terms.specs.declared.ty.Ty.{Ty}
@@ -7,13 +7,13 @@ use Rattle.hol_terms.specs.declared.term.Term.{Term}
 use Rattle.theory_terms.specs.Words.{place}
 use Rattle.proof_syntax.specs.declared.fault.PartFault.{PartFault}
 use Rattle.proof_syntax.specs.declared.fault.PartFault.TheVariants as fault
-use Rattle.proof_syntax.specs.Tokens.{Sign, LineEnd, Space, Tok, Word, Mark, cut, space}
+use Rattle.proof_syntax.specs.Tokens.{Space, Tok, Word, Mark, cut, space}
 use Rattle.proof_syntax.specs.Names.{Names, number_of}
 use Rattle.proof_syntax.specs.Forms.{Arg, FactArg, NumberArg, TypeArg, TermArg, Truth}
-use Rattle.proof_syntax.specs.Grammar.{Placed, at, most, name_level, IsType, base, IsTerm, plain, IsArg, fact, number, type, term, AreArgs, none, more}
-use Rattle.proof_syntax.specs.Machine.{put, Behind, WantArg, WantType, WantTerm, InStep, Opened, with_arg, wanted, behind, want_arg, number_arg, number_in, Kind, FactKind, NumberKind, TypeKind, TermKind, kind_of, step}
+use Rattle.proof_syntax.specs.Grammar.{Placed, at, most, name_level, base, plain, IsArg, fact, number, type, term, AreArgs, none, more}
+use Rattle.proof_syntax.specs.Machine.{put, Behind, WantArg, InStep, Opened, with_arg, wanted, behind, number_arg, Kind, FactKind, NumberKind, TypeKind, TermKind, kind_of}
 use Rattle.proof_syntax.specs.Parts.{IsNot, GotType, BegunType, FailsType, wants_type, GotTerm, BegunTerm, FailsTerm, wants_term, Below}
-use Rattle.proof_syntax.proofs.Inside.{inside, here, here_in, here_beyond, Refuses, refuses_but}
+use Rattle.proof_syntax.proofs.Inside.{inside, here, here_in, here_beyond, refuses_but}
 use Rattle.proof_syntax.proofs.Leads.{Leads, leads_on, leads_last}
 use Rattle.proof_syntax.proofs.Complete.{arg_runs}
 use Rattle.proof_syntax.proofs.Numbers.{no_number}

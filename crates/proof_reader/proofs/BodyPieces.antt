@@ -1,33 +1,28 @@
 -- The ways out of the readers of the goal's line and of the whole body.
-use Rattle.std.proofs.Common.{◌≡◌, ◌⊎◌, inl, inr, ℕ, ◌+◌, ◌-◌, ◌<◌, ◌≤◌, List, [], ◌∷◌, ◌++◌, map, length, take, codes, Some, None, refl, sym, ap, subst, ◌∙◌, arith}
+use Rattle.std.proofs.Common.{◌≡◌, inl, inr, ℕ, ◌+◌, ◌<◌, ◌≤◌, List, [], ◌∷◌, length, take, codes, Some, None, refl, sym, ap, subst, ◌∙◌, arith}
 use Rattle.std.specs.Str.{bytes_eq}
 use Rattle.std.specs.List.{position}
 use Rattle.first_fault.specs.Levels.{Within}
 use Rattle.first_fault.specs.Walk.{after}
-use Rattle.first_fault.proofs.Fronts.{put-append}
-use Rattle.kernel_rules.specs.declared.step.Step.{Step}
 use Rattle.theory_terms.specs.Words.{place}
 use Rattle.theory_terms.proofs.Places.{position_map}
 use Rattle.theory_reader.specs.declared.theory.Theory.{Theory}
 use Rattle.theory_reader.specs.declared.statement.Goal.{Goal}
 use Rattle.theory_reader.specs.Sound.{goal_names}
 use Rattle.proof_words.specs.Sharing.{IsOneOf}
-use Rattle.proof_syntax.specs.declared.file.ProofFile.{ProofFile}
 use Rattle.proof_syntax.specs.declared.fault.PartFault.{PartFault}
 use Rattle.proof_syntax.specs.declared.fault.PartFault.TheVariants as fault
 use Rattle.proof_syntax.specs.Tokens.{Sign, Space, LineEnd, Tok, Word, Mark, cut, spelled, space, line_end}
-use Rattle.proof_syntax.specs.Names.{names_of, number_of}
-use Rattle.proof_syntax.specs.Grammar.{Placed, at, most, name_level, AreSteps, end, proof}
-use Rattle.proof_syntax.specs.Reading.{Into, Shares}
+use Rattle.proof_syntax.specs.Names.{number_of}
+use Rattle.proof_syntax.specs.Grammar.{Placed, at, most, name_level, end, proof}
+use Rattle.proof_syntax.specs.Reading.{Into}
 use Rattle.proof_syntax.specs.Machine.{put, goes, Stuck, Done, Whole, GoalWord, GoalSpace, GoalName, GoalEnd, whole_step, whole_accepted, whole_run}
 use Rattle.proof_syntax.specs.Parts.{end_of, IsNot, NoWord}
 use Rattle.proof_syntax.proofs.Cutting.{cut_length}
 use Rattle.proof_syntax.proofs.Numbers.{eq_false}
-use Rattle.proof_syntax.proofs.Whole.{goal_line}
 use Rattle.proof_syntax.proofs.Stops as stops
-use Rattle.proof_reader.specs.Words.{Other, FailsWord}
-use Rattle.proof_reader.specs.Parts.{GotSteps, FailsSteps}
-use Rattle.proof_reader.specs.Body.{BodyReads, Begins, BodyHalts, FailsBody, GotGoal}
+use Rattle.proof_reader.specs.Words.{FailsWord}
+use Rattle.proof_reader.specs.Body.{Begins, BodyHalts, FailsBody, GotGoal}
 
 -- ---- a body goes on
 

@@ -1,5 +1,5 @@
 -- Names that differ, and the names beside a goal.
-use Rattle.std.proofs.Common.{◌≡◌, ℕ, suc, ◌+◌, ◌<◌, ◌≤◌, Bool, true, false, ◌&&◌, IsTrue, List, [], ◌∷◌, ◌++◌, map, length, take, drop, get_or, slice_get, codes, Some, None, refl, sym, ap, subst, append_assoc, ◌∙◌}
+use Rattle.std.proofs.Common.{◌≡◌, ℕ, suc, ◌+◌, ◌<◌, false, ◌&&◌, IsTrue, List, [], ◌∷◌, ◌++◌, map, length, take, drop, get_or, slice_get, codes, Some, None, refl, sym, ap, subst, append_assoc, ◌∙◌}
 use Rattle.std.specs.Prelude.{not}
 use Rattle.std.specs.List.{list_any, list_all}
 use Rattle.std.specs.Option.{option_map}
@@ -18,7 +18,7 @@ use Rattle.theory_terms.specs.declared.decl.Decl.{Decl}
 use Rattle.theory_reader.specs.Sound.{const_names, fact_names, goal_names, seen_from, are_named, are_distinct}
 use Rattle.theory_reader.proofs.Passes.{passes_at}
 use Rattle.theory_reader.proofs.Differ.{other_way}
-use Rattle.proof_syntax.proofs.Numbers.{eq_same, eq_false}
+use Rattle.proof_syntax.proofs.Numbers.{eq_false}
 
 -- a name among names that differ is none of those before it
 pub fresh : (xs ys : List (List ℕ)) (w : List ℕ) → IsTrue (distinct (xs ++ w ∷ ys)) → place w xs ≡ None

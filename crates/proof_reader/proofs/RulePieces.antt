@@ -1,12 +1,11 @@
 -- The rules by their words.
-use Rattle.std.proofs.Common.{◌≡◌, ◌⊎◌, inl, inr, ℕ, List, [], ◌∷◌, map, Option, Some, None, if◌then◌else◌, Bool, true, false, refl, sym, ap, subst, ◌∙◌}
-use Rattle.std.specs.Str.{bytes_eq}
+use Rattle.std.proofs.Common.{◌≡◌, inl, inr, ℕ, List, [], ◌∷◌, map, Some, None, refl, sym, ap, subst, ◌∙◌}
 use Rattle.hol_terms.specs.declared.ty.Ty.{Ty}
 use Rattle.hol_terms.specs.declared.term.Term.{Term}
 use Rattle.kernel_rules.specs.declared.step.Step.{Step}
 use Rattle.proof_words.specs.Sharing.{IsOneOf}
 use Rattle.proof_syntax.specs.Forms.{Arg, FactArg, NumberArg, TypeArg, TermArg}
-use Rattle.proof_syntax.specs.Machine.{Kind, FactKind, NumberKind, TypeKind, TermKind, kind_of, Rule, rule_in, rules, id}
+use Rattle.proof_syntax.specs.Machine.{Kind, FactKind, NumberKind, TypeKind, TermKind, kind_of, Rule, rule_in, rules}
 use Rattle.proof_syntax.proofs.Numbers.{eq_false}
 use Rattle.proof_reader.specs.declared.rule as code
 use Rattle.proof_reader.specs.declared.rule.TermRule.TheVariants as term

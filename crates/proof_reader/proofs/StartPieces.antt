@@ -1,10 +1,10 @@
 -- Where the body begins.
-use Rattle.std.proofs.Common.{◌≡◌, ◌⊎◌, inl, inr, ℕ, suc, ◌+◌, ◌-◌, ◌<◌, ◌≤◌, ◌==◌, Bool, true, List, [], ◌∷◌, ◌++◌, length, take, drop, get_or, Some, None, refl, sym, ap, subst, append_assoc, add-one, ◌∙◌, arith, rules, length-append}
+use Rattle.std.proofs.Common.{◌≡◌, inl, inr, ℕ, suc, ◌+◌, ◌-◌, ◌<◌, ◌≤◌, ◌==◌, true, List, [], ◌∷◌, ◌++◌, length, take, drop, get_or, Some, None, refl, sym, ap, append_assoc, add-one, ◌∙◌, arith, rules, length-append}
 use Rattle.std.proofs.lemmas.Bool.{cases_lt}
 use Rattle.std.proofs.lemmas.List.{take_rest, length-take-le, get_or-take}
 use Rattle.std.proofs.Math.Seq.{split_at, get_or-append_seam}
 use Rattle.memchr.specs.Find.{IsFirstByte, is_byte}
-use Rattle.proof_syntax.specs.Reading.{first_line, AreLines, StartsBehind, NeverStarts}
+use Rattle.proof_syntax.specs.Reading.{first_line, AreLines, NeverStarts}
 use Rattle.proof_reader.specs.Start.{IsBody, NoLineEnd, IsBehindLine}
 
 -- ---- the line at the front

@@ -1,16 +1,15 @@
 -- The ways out of the reader of one step.
-use Rattle.std.proofs.Common.{◌≡◌, ◌⊎◌, inl, inr, ℕ, ◌+◌, ◌<◌, List, [], ◌∷◌, ◌++◌, map, length, decimal, codes, None, refl, sym, ap, subst, append_assoc, append-nil, ◌∙◌, arith}
+use Rattle.std.proofs.Common.{◌≡◌, inl, inr, ℕ, ◌+◌, ◌<◌, List, [], ◌∷◌, ◌++◌, map, length, decimal, codes, None, refl, sym, ap, subst, append_assoc, append-nil, ◌∙◌, arith}
 use Rattle.first_fault.specs.Levels.{Within}
 use Rattle.first_fault.proofs.Fronts.{put-append, within-append}
 use Rattle.kernel_rules.specs.declared.step.Step.{Step}
-use Rattle.kernel_rules.specs.declared.step.Step.TheVariants as steps
 use Rattle.proof_words.specs.Sharing.{IsOneOf}
 use Rattle.proof_syntax.specs.declared.fault.PartFault.{PartFault}
 use Rattle.proof_syntax.specs.declared.fault.PartFault.TheVariants as fault
-use Rattle.proof_syntax.specs.Tokens.{Sign, LineEnd, Space, Tok, Word, Mark, cut, space, line_end, spelled}
+use Rattle.proof_syntax.specs.Tokens.{LineEnd, Space, Tok, Word, Mark, cut, space, line_end, spelled}
 use Rattle.proof_syntax.specs.Names.{Names}
 use Rattle.proof_syntax.specs.Forms.{Arg, Form, form}
-use Rattle.proof_syntax.specs.Grammar.{Placed, at, most, AreArgs, none, AreSteps, end, step as step_}
+use Rattle.proof_syntax.specs.Grammar.{Placed, at, most, AreArgs, AreSteps, end, step as step_}
 use Rattle.proof_syntax.specs.Machine.{put, StepStart, StepSpace, RuleWord, Behind, Opened, with_args, behind, opened, made, rule_in, rules, kind_of, to, Rule}
 use Rattle.proof_syntax.specs.Parts.{IsNot}
 use Rattle.proof_syntax.proofs.Cutting.{cut_length}
@@ -21,7 +20,7 @@ use Rattle.proof_reader.specs.declared.rule as code
 use Rattle.proof_reader.specs.declared.rule.Rule.TheVariants as any
 use Rattle.proof_reader.specs.Rules.{rule_of, IsMade}
 use Rattle.proof_reader.specs.Words.{Other, FailsWord, words_of}
-use Rattle.proof_reader.specs.Parts.{GotArgs, BegunArgs, Wanting, behind_opened, FailsArgs, GotMade, GotStep, BegunStep, FailsStep}
+use Rattle.proof_reader.specs.Parts.{BegunArgs, Wanting, behind_opened, FailsArgs, GotMade, GotStep, BegunStep, FailsStep}
 use Rattle.proof_reader.proofs.Refuses.{refuses_signs}
 use Rattle.proof_reader.proofs.ArgPieces.{some_args}
 use Rattle.proof_reader.proofs.WordPieces.{not_longer}

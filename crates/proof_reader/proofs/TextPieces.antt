@@ -1,5 +1,5 @@
 -- The ways out of the readers of the whole body and of the whole text.
-use Rattle.std.proofs.Common.{◌≡◌, ℕ, ◌+◌, ◌-◌, ◌≤◌, List, [], ◌∷◌, ◌++◌, length, codes, Some, refl, sym, ap, subst, ◌∙◌, arith, length-append}
+use Rattle.std.proofs.Common.{◌≡◌, ℕ, ◌+◌, ◌-◌, ◌≤◌, List, [], ◌++◌, length, Some, sym, ap, subst, ◌∙◌, arith, length-append}
 use Rattle.first_fault.specs.Levels.{Within}
 use Rattle.first_fault.proofs.Fronts.{put-append, within-append}
 use Rattle.kernel_rules.specs.declared.step.Step.{Step}
@@ -9,7 +9,6 @@ use Rattle.theory_reader.specs.Sound.{goal_names}
 use Rattle.proof_syntax.specs.declared.file.ProofFile.{ProofFile}
 use Rattle.proof_syntax.specs.declared.fault.PartFault.{PartFault}
 use Rattle.proof_syntax.specs.declared.fault.PartFault.TheVariants as fault
-use Rattle.proof_syntax.specs.Tokens.{cut}
 use Rattle.proof_syntax.specs.Names.{names_of, number_of}
 use Rattle.proof_syntax.specs.Grammar.{Placed, most, name_level, AreSteps, IsProof, proof}
 use Rattle.proof_syntax.specs.Reading.{first_line, Reads, Faulty, stops, goes_beyond, behind}

@@ -1,12 +1,12 @@
 -- A word at the front that is none of those that are meant.
-use Rattle.std.proofs.Common.{◌≡◌, ◌⊎◌, inr, ℕ, ◌+◌, ◌-◌, ◌≤◌, List, [], ◌∷◌, ◌++◌, length, ap, sym, ◌∙◌, arith, length-append}
+use Rattle.std.proofs.Common.{◌≡◌, inr, ℕ, ◌-◌, ◌≤◌, List, [], ◌∷◌, length, ap, sym, ◌∙◌, arith, length-append}
 use Rattle.proof_words.specs.Sharing.{Shares}
 use Rattle.proof_syntax.specs.declared.fault.PartFault.TheVariants as fault
 use Rattle.proof_syntax.specs.Tokens.{Tok, Word, cut, spelled}
 use Rattle.proof_syntax.specs.Grammar.{Placed}
 use Rattle.proof_syntax.specs.Machine.{put}
 use Rattle.proof_syntax.proofs.Cutting.{cut_length, spelled_put}
-use Rattle.proof_reader.specs.Words.{Other, FailsWord}
+use Rattle.proof_reader.specs.Words.{FailsWord}
 
 -- a word at the front is no longer than the text
 pub word_within : (text w : List ℕ) (rest : List Tok) → cut text ≡ Word w ∷ rest → length w ≤ length text

@@ -1,5 +1,5 @@
 -- What the readers of the goal's line and of the whole body promise.
-use Rattle.std.specs.Prelude.{◌≡◌, ℕ, ◌+◌, ◌<◌, List, [], ◌∷◌, ◌++◌, length, codes, Some}
+use Rattle.std.specs.Prelude.{◌≡◌, ℕ, ◌+◌, List, ◌∷◌, length, codes, Some}
 use Rattle.first_fault.specs.Levels.{Within}
 use Rattle.first_fault.specs.Answers as answers
 use Rattle.theory_terms.specs.Words.{place}
@@ -9,7 +9,7 @@ use Rattle.proof_syntax.specs.declared.file.ProofFile.{ProofFile}
 use Rattle.proof_syntax.specs.declared.fault.PartFault.{PartFault}
 use Rattle.proof_syntax.specs.declared.fault.PartFault.TheVariants as fault
 use Rattle.proof_syntax.specs.Tokens.{Tok, Word, cut, spelled, space, line_end}
-use Rattle.proof_syntax.specs.Grammar.{Placed, IsProof, at, most}
+use Rattle.proof_syntax.specs.Grammar.{Placed, IsProof, most}
 use Rattle.proof_syntax.specs.Reading.{Into}
 use Rattle.proof_syntax.specs.Machine.{put, goes, whole_run, GoalWord}
 use Rattle.proof_syntax.specs.Parts.{end_of, Exceeds}

@@ -6,7 +6,7 @@ use Rattle.kernel_rules.specs.declared.step.Step.{Step}
 use Rattle.kernel_rules.specs.declared.step.Step.TheVariants as steps
 use Rattle.kernel_rules.specs.declared.step.ThmId.{ThmId}
 use Rattle.proof_syntax.specs.Forms.{Arg, says, form}
-use Rattle.proof_syntax.specs.Machine.{Kind, FactKind, NumberKind, TypeKind, TermKind, kind_of, Rule, rule, of_fact, of_none, of_term, of_one, of_two, of_three, of_term_one, of_term_two, of_terms_one, of_variable, of_variable_term}
+use Rattle.proof_syntax.specs.Machine.{FactKind, NumberKind, TypeKind, TermKind, kind_of, Rule, rule, of_fact, of_none, of_term, of_one, of_two, of_three, of_term_one, of_term_two, of_terms_one, of_variable, of_variable_term}
 use Rattle.proof_reader.specs.declared.rule as code
 use Rattle.proof_reader.specs.declared.rule.TermRule.TheVariants as term
 use Rattle.proof_reader.specs.declared.rule.TheoremRule.TheVariants as theorem

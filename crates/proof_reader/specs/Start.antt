@@ -1,5 +1,5 @@
 -- Where the body of a text begins.
-use Rattle.std.specs.Prelude.{◌≡◌, ℕ, List, [], ◌∷◌, ◌++◌}
+use Rattle.std.specs.Prelude.{◌≡◌, ℕ, List, ◌∷◌, ◌++◌}
 use Rattle.proof_syntax.specs.Reading.{StartsBehind}
 
 -- the body stands behind the first line of the proof

@@ -1,6 +1,6 @@
 -- A word at the front of a text, where some words alone go on.
 use Rattle.std.specs.Prelude.{◌≡◌, ◌⊎◌, ℕ, ◌+◌, ◌<◌, List, [], ◌∷◌, length, map, codes, decimal}
-use Rattle.proof_words.specs.Sharing.{Shares, IsOneOf}
+use Rattle.proof_words.specs.Sharing.{Shares}
 use Rattle.proof_syntax.specs.declared.fault.PartFault.{PartFault}
 use Rattle.proof_syntax.specs.declared.fault.PartFault.TheVariants as fault
 use Rattle.proof_syntax.specs.Tokens.{Tok, Word, cut, line_end}

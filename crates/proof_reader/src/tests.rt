@@ -56,7 +56,6 @@ goal g
 end
 ";
 
-#[tactic(none)]
 fn are_small(steps: &[Step]) -> bool {
     matches!(
         steps,

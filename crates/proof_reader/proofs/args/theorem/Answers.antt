@@ -1,6 +1,4 @@
-use Rattle.std.proofs.Common.{List, [], ◌∷◌}
-use Rattle.proof_syntax.specs.Forms.{NumberArg, TypeArg, TermArg}
-use Rattle.proof_syntax.specs.Machine.{NumberKind, TypeKind, TermKind}
+use Rattle.proof_syntax.specs.Forms.{NumberArg}
 use Rattle.proof_reader.proofs.ArgPieces as pieces
 use Rattle.proof_reader.proofs.args.theorem.Goals as goal
 

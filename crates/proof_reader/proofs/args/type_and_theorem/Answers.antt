@@ -1,6 +1,6 @@
-use Rattle.std.proofs.Common.{List, [], ◌∷◌}
-use Rattle.proof_syntax.specs.Forms.{NumberArg, TypeArg, TermArg}
-use Rattle.proof_syntax.specs.Machine.{NumberKind, TypeKind, TermKind}
+use Rattle.std.proofs.Common.{[], ◌∷◌}
+use Rattle.proof_syntax.specs.Forms.{NumberArg, TypeArg}
+use Rattle.proof_syntax.specs.Machine.{NumberKind}
 use Rattle.proof_reader.proofs.ArgPieces as pieces
 use Rattle.proof_reader.proofs.args.type_and_theorem.Goals as goal
 

@@ -1,4 +1,4 @@
-use Rattle.std.proofs.Common.{List, [], ◌∷◌}
+use Rattle.std.proofs.Common.{[], ◌∷◌}
 use Rattle.proof_syntax.specs.Forms.{NumberArg, TypeArg, TermArg}
 use Rattle.proof_syntax.specs.Machine.{NumberKind, TypeKind, TermKind}
 use Rattle.proof_reader.proofs.ArgPieces as pieces

@@ -1,4 +1,4 @@
-use Rattle.std.proofs.Common.{◌++◌, IsTrue, subst, sym, ap, take}
+use Rattle.std.proofs.Common.{◌++◌, IsTrue, subst, sym, take}
 use Rattle.theory_reader.specs.Names.{distinct}
 use Rattle.theory_reader.specs.Sound.{fact_names}
 use Rattle.proof_reader.proofs.NamePieces as pieces

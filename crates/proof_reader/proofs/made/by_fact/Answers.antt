@@ -1,5 +1,5 @@
-use Rattle.std.proofs.Common.{List, [], ◌∷◌, refl}
-use Rattle.proof_syntax.specs.Forms.{FactArg, NumberArg, TypeArg, TermArg}
+use Rattle.std.proofs.Common.{[], ◌∷◌, refl}
+use Rattle.proof_syntax.specs.Forms.{FactArg}
 use Rattle.proof_reader.proofs.ArgPieces as pieces
 use Rattle.proof_reader.proofs.made.by_fact.Goals as goal
 

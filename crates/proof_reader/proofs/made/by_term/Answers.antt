@@ -1,5 +1,5 @@
-use Rattle.std.proofs.Common.{List, [], ◌∷◌, refl}
-use Rattle.proof_syntax.specs.Forms.{FactArg, NumberArg, TypeArg, TermArg}
+use Rattle.std.proofs.Common.{[], ◌∷◌}
+use Rattle.proof_syntax.specs.Forms.{TermArg}
 use Rattle.proof_reader.proofs.ArgPieces as pieces
 use Rattle.proof_reader.proofs.made.by_term.Goals as goal
 

@@ -1,6 +1,5 @@
-use Rattle.std.proofs.Common.{List, [], ◌∷◌, refl}
-use Rattle.proof_syntax.specs.Forms.{FactArg, NumberArg, TypeArg, TermArg}
-use Rattle.proof_reader.proofs.ArgPieces as pieces
+use Rattle.std.proofs.Common.{[], ◌∷◌}
+use Rattle.proof_syntax.specs.Forms.{NumberArg}
 use Rattle.proof_reader.proofs.made.by_theorem.Goals as goal
 
 pub returns-in-Ok : goal.returns-in-Ok

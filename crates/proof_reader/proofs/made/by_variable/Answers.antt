@@ -1,6 +1,5 @@
-use Rattle.std.proofs.Common.{List, [], ◌∷◌, refl}
-use Rattle.proof_syntax.specs.Forms.{FactArg, NumberArg, TypeArg, TermArg}
-use Rattle.proof_reader.proofs.ArgPieces as pieces
+use Rattle.std.proofs.Common.{[], ◌∷◌}
+use Rattle.proof_syntax.specs.Forms.{NumberArg, TypeArg}
 use Rattle.proof_reader.proofs.made.by_variable.Goals as goal
 
 pub returns-in-Ok : goal.returns-in-Ok

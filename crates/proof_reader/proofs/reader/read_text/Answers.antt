@@ -1,4 +1,3 @@
-use Rattle.proof_reader.specs.Body.{BodyHalts}
 use Rattle.proof_syntax.specs.Reading.{never_starts}
 use Rattle.proof_reader.proofs.TextPieces as pieces
 use Rattle.proof_reader.proofs.reader.read_text.Goals as goal

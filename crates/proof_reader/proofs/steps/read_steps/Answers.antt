@@ -1,4 +1,4 @@
-use Rattle.std.proofs.Common.{subst, length, decimal, ◌≡◌, ◌∷◌, List, ◌<◌}
+use Rattle.std.proofs.Common.{subst, decimal, ◌≡◌, ◌∷◌}
 use Rattle.proof_words.specs.Sharing.{IsOneOf}
 use Rattle.proof_syntax.specs.Tokens.{Word, cut}
 use Rattle.proof_reader.specs.Words.{FailsWord, openings}
