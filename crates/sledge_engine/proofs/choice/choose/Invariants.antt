@@ -1,7 +1,0 @@
-use Rattle.std.proofs.Common.{◌≡◌, ◌++◌, drop, map, string_bytes}
-use Rattle.sledge_engine.specs.Choice.{places_from}
-use Rattle.sledge_engine.proofs.choice.choose.Given as goal
-
-abbrev pub invariant-loop-i : goal.invariant-loop-i
-invariant-loop-i l =
-    l.out ++ places_from l.i (map string_bytes l.words) (map (λ n. n.now) (drop l.i l.names)) ≡ places_from 0 (map string_bytes l.words) (map (λ n. n.now) l.names)
