@@ -107,6 +107,7 @@ impl TermRule {
         }
     }
 
+    /// The step by this rule with a term.
     pub fn step(self, term: Term) -> Step
         ensures { IsMade (term_rule self) (TermArg term ∷ []) result }
     {
@@ -133,6 +134,7 @@ impl TheoremRule {
         }
     }
 
+    /// The step by this rule from a theorem.
     pub fn step(self, a: ThmId) -> Step
         ensures { IsMade (theorem_rule self) (NumberArg a.0 ∷ []) result }
     {
@@ -161,6 +163,7 @@ impl PairRule {
         }
     }
 
+    /// The step by this rule from two theorems.
     pub fn step(self, a: ThmId, b: ThmId) -> Step
         ensures { IsMade (pair_rule self) (NumberArg a.0 ∷ NumberArg b.0 ∷ []) result }
     {
@@ -194,6 +197,7 @@ impl MixedRule {
         }
     }
 
+    /// The step by this rule with a term, from a theorem.
     pub fn step(self, term: Term, a: ThmId) -> Step
         ensures { IsMade (mixed_rule self) (TermArg term ∷ NumberArg a.0 ∷ []) result }
     {
@@ -221,6 +225,7 @@ impl VariableRule {
         }
     }
 
+    /// The step by this rule over a variable, from a theorem.
     pub fn step(self, variable: u64, ty: Ty, a: ThmId) -> Step
         ensures { IsMade (variable_rule self) (NumberArg variable ∷ TypeArg ty ∷ NumberArg a.0 ∷ []) result }
     {
