@@ -1,6 +1,6 @@
--- The grammar of proof texts: one constructor for each form of a rule. Each token is written with the level at which it stands: what brackets or a
--- lambda's braces hold, with them and with the lambda's body, is one deeper. A name that isn't declared goes on as any name does, but stands above
--- every level that is allowed.
+-- The grammar of proof texts: one constructor for each form of a rule. Each token is written with the level at which it stands: what the brackets of
+-- an application or the braces of a lambda hold, with them and with the lambda's body, is one deeper; brackets of types change nothing. A name that
+-- isn't declared goes on as any name does, but stands above every level that is allowed.
 use Rattle.std.specs.Prelude.{ℕ, ◌+◌, ◌^◌, ◌<◌, List, [], ◌∷◌, ◌++◌, codes, decimal, Option, Some, None}
 use Rattle.first_fault.specs.Levels as levels
 use Rattle.hol_terms.specs.declared.ty.Ty.{Ty}
@@ -33,7 +33,7 @@ abbrev pub name_level : ℕ → Option ℕ → ℕ
 name_level l None = most + 1
 name_level l (Some n) = l
 
--- a name among these
+-- a name, looked up among these
 abbrev pub name : ℕ → List ℕ → List (List ℕ) → Placed
 name l x names = at (name_level l (place x names)) (Word x)
 

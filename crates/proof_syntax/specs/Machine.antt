@@ -1,4 +1,5 @@
--- What may come next, token after token: a walk over the tokens with a list of open frames. Proofs alone are by it.
+-- What may come next, token after token: a walk over the tokens with a list of open frames. What the readers of parts promise, and proofs, are by
+-- it; what a text reads as is not.
 use Rattle.std.specs.Prelude.{◌≡◌, ℕ, ◌+◌, ◌*◌, ◌-◌, ◌^◌, ◌&&◌, nat_lt, length, map, List, [], ◌∷◌, ◌++◌, codes, decimal, Option, Some, None, if◌then◌else◌}
 use Rattle.std.specs.Str.{bytes_eq}
 use Rattle.first_fault.specs.Walk as walk

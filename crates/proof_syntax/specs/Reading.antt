@@ -27,7 +27,7 @@ pub record StartsBehind (text before body : List ℕ) : Type 0 where
 abbrev pub NeverStarts : List ℕ → Type 0
 NeverStarts text = (front rest : List ℕ) → text ≡ front ++ first_line ++ rest → AreLines front → ⊥
 
--- ---- how far into a token no text goes on
+-- ---- how far into a token some text still goes on
 
 -- some text goes on with the token behind these
 abbrev pub GoesOn : Theory → List Placed → Tok → Type 0
@@ -46,7 +46,7 @@ Into t p (Word w ∷ rest) n = Shares t p w n
 
 -- ---- the body
 
--- no text goes on with this byte of the body
+-- no text goes on with this byte of the body, or none ends where the body does
 pub record StopsAt (t : Theory) (body : List ℕ) (at : ℕ) : Type 0 where
   pub place : ℕ
   pub found : answers.SyntaxAt Tok ProofFile (IsProof t) most (cut body) place
@@ -54,7 +54,7 @@ pub record StopsAt (t : Theory) (body : List ℕ) (at : ℕ) : Type 0 where
   pub is_into : Into t found.before found.rest into
   pub is : at ≡ length (spelled (take place (cut body))) + into
 
--- here begins a name that isn't declared, or the 4,097th term in one another
+-- here begins a name that isn't declared, or a term that opens nesting 4,097
 pub record GoesBeyondAt (t : Theory) (body : List ℕ) (at : ℕ) : Type 0 where
   pub place : ℕ
   pub found : answers.TooDeepAt Tok ProofFile (IsProof t) most (cut body) place
@@ -72,7 +72,7 @@ pub record Reads (t : Theory) (text : List ℕ) (p : ProofFile) : Type 0 where
 abbrev pub behind : List ℕ → ℕ → ℕ
 behind before at = length (before ++ first_line) + at
 
--- the first byte at which no text goes on, or at which a name that isn't declared or a term that is nested too deep begins
+-- the first byte at which no text goes on, or at which a name that isn't declared or a term that is nested too deep begins; or the text's length
 pub data Faulty (t : Theory) (text : List ℕ) : ℕ → Type 0 where
   never_starts : NeverStarts text → Faulty t text (length text)
   stops : {before body : List ℕ} {at : ℕ} → StartsBehind text before body → StopsAt t body at → Faulty t text (behind before at)

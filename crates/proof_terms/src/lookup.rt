@@ -3,7 +3,7 @@ ghost use Rattle.std.specs.Prelude.{◌≡◌};
 use std::marker::Model;
 use theory_terms::Names;
 
-/// The names that a part of a proof text may use: base types, constants and facts, each found in constant time.
+/// The names that a part of a proof text may use: base types, constants and facts, each in a hash table.
 #[derive(Drop)]
 pub struct Lookup<'t> {
     types: Names<'t>,

@@ -1,4 +1,4 @@
-//! Prints a proof as its one text, which is read as the proof again.
+//! Prints a proof as its one text, which reads as the proof where its steps check and nest at most 4,096 deep.
 #![tactic(auto)]
 
 mod laws;

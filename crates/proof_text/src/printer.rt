@@ -31,7 +31,7 @@ fn printed(alloc: Global, theory: &Theory, goal: u32, steps: &[Step]) -> Result<
 
 /// The text of a proof of the goal with this number.
 ///
-/// Where the steps check and no term is nested too deep, the text is read as the proof again.
+/// Where the steps check and no term is nested above 4,096 deep, the text reads as the proof.
 pub fn print_proof(
     alloc: Global,
     theory: &Theory,

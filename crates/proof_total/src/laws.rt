@@ -1,6 +1,6 @@
 ghost use Rattle.proof_total.specs.Laws.{SomeAnswer};
 
-/// Each text has an answer: it is a proof text, or it has a first fault.
+/// Each text has an answer: it reads as a proof, or has a fault.
 pub fn some_answer()
     ensures { SomeAnswer }
 {}

@@ -27,23 +27,23 @@ pub record NoFile (o : Outside) (name : List ℕ) : Type 0 where
   pub failed : Rose o.before o.after
   pub absent : IsTrue o.sure → Lacks o.files name
 
--- the file of this name holds these bytes, and they are within the limit
+-- these bytes were fetched whole under this name; where the shelf tells, they are what it holds
 pub record Holds (files : Option Files) (name : List ℕ) (limit : ℕ) (bytes : List ℕ) : Type 0 where
   pub fetched : Fetched files name limit bytes
   pub short : length bytes ≤ limit
 
--- there is no such file, or it is too long
+-- the shelf failed, or the file is too long
 pub data FileRefusal (o : Outside) (name : List ℕ) (limit : ℕ) : ℕ → List ℕ → Type 0 where
   no_file : NoFile o name → FileRefusal o name limit 3 (file_text name)
   long_file : (bytes : List ℕ) → Fetched o.files name limit bytes → limit < length bytes → FileRefusal o name limit 3 (long_file_text name)
 
--- the file of this name reads as the theory
+-- what was fetched under this name reads as the theory
 pub record HoldsTheory (files : Option Files) (name : List ℕ) (t : Theory) : Type 0 where
   pub bytes : List ℕ
   pub held : Holds files name most_theory_bytes bytes
   pub reads : Reads bytes (declarations t)
 
--- there is no theory under this name
+-- no theory was found under this name
 pub data TheoryRefusal (o : Outside) (name : List ℕ) : ℕ → List ℕ → Type 0 where
   no_bytes : (status : ℕ) (text : List ℕ) → FileRefusal o name most_theory_bytes status text → TheoryRefusal o name status text
   faulty : (bytes : List ℕ) (at : ℕ) (k : TheoryKind) → Holds o.files name most_theory_bytes bytes → Faulty bytes at k → TheoryRefusal o name 4 (theory_text at k)

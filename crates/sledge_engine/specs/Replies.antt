@@ -34,7 +34,7 @@ pub data GoalReply (t : Theory) (goal : ℕ) (names : List (List ℕ)) (shows : 
   not_built : (name : List ℕ) → IsUnbuilt t goal name → GoalReply t goal names shows 4 (not_built_text name)
   -- a name isn't that of a fact before the goal or of an assumption of it
   hidden : (name : List ℕ) → IsBuilt t goal → IsFirstHidden t goal names name → GoalReply t goal names shows 2 (fact_text name)
-  -- the goal is derived in the kernel from no facts but the named ones, by the steps that are shown
+  -- the goal is derived in the kernel from no facts but the named ones, by steps that are shown where that is asked
   proved : IsBuilt t goal → AllVisible t goal names → (found : HasProof t goal (chosen names t goal)) →
       GoalReply t goal names shows 0 (metis_text (chosen_names names t goal) ++ shown shows t goal found.steps)
   -- the search ended without a proof
@@ -57,7 +57,7 @@ pub data MetisReply (o : Outside) (l : MetisLine) : ℕ → List ℕ → Type 0 
 pub data StepsReply (t : Theory) (goal : ℕ) (steps : List Step) (env : Env) : ℕ → List ℕ → Type 0 where
   -- a step has no sequent, and each one before it has
   refused : (at : ℕ) → IsFirstRefused env steps at → StepsReply t goal steps env 7 (step_text at)
-  -- each step has a sequent, but the last one isn't the goal without hypotheses
+  -- each step has a sequent, but the last one isn't the goal without hypotheses, or there is none
   other_end : Checks env steps → (Proves env steps → ⊥) → StepsReply t goal steps env 7 (step_text (length steps))
   -- the goal is derived from the facts that are named
   proves : Proves env steps → StepsReply t goal steps env 0 (checked_text (name_in (goal_names t.goals) goal) (used_names t goal steps))

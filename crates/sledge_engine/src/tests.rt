@@ -250,59 +250,85 @@ fn all_say(alloc: Global, cases: &[Case]) -> Result<bool, NoMemory> {
 const PROOF: &[u8] =
     b"sledge proof 1\ngoal g\n0 fact f1\n1 fact f2\n2 assume (not .p)\n3 notelim 2 0\n4 classical .q 3\n5 assume .q\n6 orelim 1 4 5\nend\n";
 
-/// A proof file beside `IMPLIED`, and what `check T P` answers.
+/// Addition by its two equations, and that one and one are two.
+const ADDED: &[u8] =
+    b"type nat; const zero : nat; const suc : nat -> nat; const add : nat -> nat -> nat;
+fact add_zero : !m:nat. add m zero = m; fact add_suc : !m:nat. !n:nat. add m (suc n) = suc (add m n);
+goal two : add (suc zero) (suc zero) = suc (suc zero);";
+
+/// A proof of the goal of `ADDED`.
+const ADDED_PROOF: &[u8] =
+    b"sledge proof 1\ngoal two\n0 fact add_suc\n1 allelim (.suc .zero) 0\n2 allelim .zero 1\n3 fact add_zero\n4 allelim (.suc .zero) 3\n5 subst {nat}((eq[nat] ((.add (.suc .zero)) (.suc .zero))) (.suc #0)) 4 2\nend\n";
+
+/// A theory, a proof file, and what `check T P` answers.
 #[derive(Clone, Copy, Drop)]
 struct ProofCase<'a> {
+    theory: &'a [u8],
     proof: &'a [u8],
     status: u8,
     text: &'a [u8],
 }
 
-const PROOFS: [ProofCase; 9] = [
+const PROOFS: [ProofCase; 10] = [
     ProofCase {
+        theory: IMPLIED,
         proof: PROOF,
         status: 0,
         text: b"checked: g from f1 f2\n",
     },
     ProofCase {
+        theory: IMPLIED,
         proof: b"sledge proof 1\ngoal g\n0 fact f1\n1 fact f2\n2 assume (not .p)\n3 notelim 2 1\n4 classical .q 3\n5 assume .q\n6 orelim 1 4 5\nend\n",
         status: 7,
         text: b"refused: step 3\n",
     },
     ProofCase {
+        theory: IMPLIED,
         proof: b"sledge proof 1\ngoal g\n0 fact f1\n1 fact f2\n2 assume (not .p)\n3 notelim 2 4\n4 fact f1\n5 assume .q\n6 orelim 1 4 5\nend\n",
         status: 7,
         text: b"refused: step 3\n",
     },
     ProofCase {
+        theory: IMPLIED,
         proof: b"sledge proof 1\ngoal g\n0 fact f1\n1 fact f2\n2 assume (not .p)\n3 notelim 2 0\n4 classical .q 3\n5 assume .q\nend\n",
         status: 7,
         text: b"refused: step 6\n",
     },
     ProofCase {
+        theory: IMPLIED,
         proof: b"sledge proof 1\ngoal g\n0 fact f1\n1 fact f2\n2 assume (not .p)\n3 notelim 2 0\n4 classical .q 3\n5 assume .q\n6 orelim 1 4 5\n",
         status: 7,
         text: b"refused: byte 118\n",
     },
     ProofCase {
+        theory: IMPLIED,
         proof: b"sledge proof 1\ngoal g\nend\n",
         status: 7,
         text: b"refused: step 0\n",
     },
     ProofCase {
+        theory: IMPLIED,
         proof: b"sledge proof 1\ngoal g\nend\n\n",
         status: 7,
         text: b"refused: byte 26\n",
     },
     ProofCase {
+        theory: IMPLIED,
         proof: b"sledge proof 1\ngoal g\n0 fact f9\nend\n",
         status: 7,
         text: b"refused: byte 29\n",
     },
     ProofCase {
+        theory: IMPLIED,
         proof: b"goal g\n",
         status: 7,
         text: b"refused: byte 7\n",
+    },
+    ProofCase {
+        theory: ADDED,
+        proof: ADDED_PROOF,
+        status: 0,
+        text: b"checked: two from add_zero add_suc\n",
     },
 ];
 
@@ -311,7 +337,7 @@ fn all_are_checked(alloc: Global, cases: &[ProofCase]) -> Result<bool, NoMemory>
     for case in cases {
         if !says(
             alloc,
-            IMPLIED,
+            case.theory,
             case.proof,
             &["check", "T", "P"],
             case.status,
