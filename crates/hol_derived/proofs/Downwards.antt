@@ -24,31 +24,12 @@ use Rattle.kernel_rules.proofs.Parts.{is_equal-equal, left_of-two, right_of-appl
 use Rattle.kernel_rules.proofs.GivenTerms.{given_typed, given_aux_free}
 use Rattle.kernel_rules.proofs.TypedTerms.{equal_sides, equal_aux_free}
 use Rattle.hol_kernel.specs.Logs.{Logged, thm}
-use Rattle.hol_kernel.specs.Growth.{Extends, Gives}
+use Rattle.hol_kernel.specs.Growth.{Gives}
 use Rattle.hol_kernel.specs.Conditions.{own_ty, IsGiven}
-use Rattle.hol_derived.specs.Paths.{part_at, replaced_at}
 use Rattle.hol_derived.specs.Contractions.{contracted_at, contracted_along, contraction}
 use Rattle.hol_derived.proofs.Fresh.{abstracted_put}
 use Rattle.hol_derived.proofs.PathLaws.{at_bound, at_free, at_con, at_app, at_lam, contracted_put, occurs_contracted}
-use Rattle.hol_derived.proofs.Expansions.{apply_is, lambda_is, own_is, own_given, given_parts, left_part, right_part, left_replaced, right_replaced}
-
-module _ (sig : Sig) (rest : List ℕ) (f x : Term) (one : Logged) (eq : ℕ) where
-  abbrev whole : Term
-  whole = apply f x
-
-  pub left_is : Gives one eq (contraction sig rest f) →
-      seq (thm one eq).hyps (equal (own_ty sig whole) whole (replaced_at (0 ∷ []) (right_of (thm one eq).concl) whole)) ≡ contraction sig (0 ∷ rest) whole
-  left_is g =
-      (λ i. seq ((g.is i).hyps) (equal (own_ty sig whole) whole (replaced_at (0 ∷ []) (right_of ((g.is i).concl)) whole)))
-      ∙ ap (λ z. seq set.empty (equal (own_ty sig whole) whole z))
-      (left_replaced [] (right_of (equal (own_ty sig f) f (contracted_at rest f))) f x ∙ ap (λ z. apply z x) (right_of-apply (apply (constant (konst.Eq (own_ty sig f))) f) (contracted_at rest f)) ∙ sym (at_app 0 rest f x))
-
-  pub right_is : Gives one eq (contraction sig rest x) →
-      seq (thm one eq).hyps (equal (own_ty sig whole) whole (replaced_at (1 ∷ []) (right_of (thm one eq).concl) whole)) ≡ contraction sig (1 ∷ rest) whole
-  right_is g =
-      (λ i. seq ((g.is i).hyps) (equal (own_ty sig whole) whole (replaced_at (1 ∷ []) (right_of ((g.is i).concl)) whole)))
-      ∙ ap (λ z. seq set.empty (equal (own_ty sig whole) whole z))
-      (right_replaced [] (right_of (equal (own_ty sig x) x (contracted_at rest x))) f x ∙ ap (apply f) (right_of-apply (apply (constant (konst.Eq (own_ty sig x))) x) (contracted_at rest x)) ∙ sym (at_app 1 rest f x))
+use Rattle.hol_derived.proofs.Expansions.{apply_is, lambda_is, own_is, own_given}
 
 module _ (sig : Sig) (n : ℕ) (a : Ty) (b : Term) (given : IsGiven sig (lambda a b) (own_ty sig (lambda a b))) where
   abbrev v : Term
@@ -86,42 +67,6 @@ module _ (sig : Sig) (n : ℕ) (a : Ty) (b : Term) (given : IsGiven sig (lambda 
       right =
           ap (lambda_over n a) (right_of-apply (apply (constant (konst.Eq (own_ty sig o))) o) (contracted_at rest o) ∙ contracted_put n a rest b 0)
           ∙ ap (lambda a) (abstracted_put n a (contracted_at rest b) 0 (occurs_contracted n a rest b fresh)) ∙ sym (at_lam 2 rest a b)
-
--- ---- as the calls give it
-module _ (old one : Logged) (rest : List ℕ) (first eq : ℕ) (t f x : Term) (is : t ≡ apply f x) (kept : Extends old one) where
-  abbrev sig : Sig
-  sig = old.env.sig
-
-  part_given : IsGiven sig t (own_ty sig t) → IsGiven sig f (own_ty sig f) × IsGiven sig x (own_ty sig x)
-  part_given h = given_parts sig f x (subst (λ u. IsGiven sig u (own_ty sig u)) is h)
-
-  pub function_given : IsGiven sig t (own_ty sig t) → IsGiven sig f (own_ty sig f)
-  function_given h = (part_given h).0
-
-  pub argument_given : IsGiven sig t (own_ty sig t) → IsGiven sig x (own_ty sig x)
-  argument_given h = (part_given h).1
-
-  pub left_part_is : Gives one eq (contraction sig rest f) → part_at (0 ∷ []) t ≡ Some (left_of (thm one eq).concl)
-  left_part_is g =
-      ap (part_at (0 ∷ [])) is ∙ left_part [] f x ∙ ap (λ z. Some z) (sym (ap (λ q. left_of q.concl) g.is ∙ left_of-two (constant (konst.Eq (own_ty sig f))) f (contracted_at rest f)))
-
-  pub right_part_is : Gives one eq (contraction sig rest x) → part_at (1 ∷ []) t ≡ Some (left_of (thm one eq).concl)
-  right_part_is g =
-      ap (part_at (1 ∷ [])) is ∙ right_part [] f x ∙ ap (λ z. Some z) (sym (ap (λ q. left_of q.concl) g.is ∙ left_of-two (constant (konst.Eq (own_ty sig x))) x (contracted_at rest x)))
-
-  pub left_gives : first ≡ 0 → Gives one eq (contraction sig rest f) →
-      seq (thm one eq).hyps (equal (own_ty one.env.sig t) t (replaced_at (0 ∷ []) (right_of (thm one eq).concl) t)) ≡ contraction sig (first ∷ rest) t
-  left_gives z g =
-      ap (λ e. seq (thm one eq).hyps (equal (own_ty e.sig t) t (replaced_at (0 ∷ []) (right_of (thm one eq).concl) t))) kept.env
-      ∙ subst (λ u. seq (thm one eq).hyps (equal (own_ty sig u) u (replaced_at (0 ∷ []) (right_of (thm one eq).concl) u)) ≡ contraction sig (0 ∷ rest) u) (sym is) (left_is sig rest f x one eq g)
-      ∙ ap (λ d. contraction sig (d ∷ rest) t) (sym z)
-
-  pub right_gives : first ≡ 1 → Gives one eq (contraction sig rest x) →
-      seq (thm one eq).hyps (equal (own_ty one.env.sig t) t (replaced_at (1 ∷ []) (right_of (thm one eq).concl) t)) ≡ contraction sig (first ∷ rest) t
-  right_gives z g =
-      ap (λ e. seq (thm one eq).hyps (equal (own_ty e.sig t) t (replaced_at (1 ∷ []) (right_of (thm one eq).concl) t))) kept.env
-      ∙ subst (λ u. seq (thm one eq).hyps (equal (own_ty sig u) u (replaced_at (1 ∷ []) (right_of (thm one eq).concl) u)) ≡ contraction sig (1 ∷ rest) u) (sym is) (right_is sig rest f x one eq g)
-      ∙ ap (λ d. contraction sig (d ∷ rest) t) (sym z)
 
 pub contraction_equal : (sig : Sig) (rest : List ℕ) (f : Term) (one : Logged) (eq : ℕ) → Gives one eq (contraction sig rest f) → IsTrue (is_equal (thm one eq).concl)
 contraction_equal sig rest f one eq g = ap (λ q. is_equal q.concl) g.is ∙ is_equal-equal (own_ty sig f) f (contracted_at rest f)

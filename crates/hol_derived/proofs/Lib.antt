@@ -7,4 +7,5 @@ pub mod PutPut
 pub mod Fresh
 pub mod PathLaws
 pub mod Expansions
+pub mod Crossing
 pub mod Downwards

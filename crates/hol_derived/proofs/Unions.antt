@@ -1,10 +1,10 @@
 -- Sets of hypotheses that come out alike.
-use Rattle.std.proofs.Common.{◌≡◌, sym, inl, inr, refl}
+use Rattle.std.proofs.Common.{◌≡◌, sym, inl, inr}
 use Rattle.std.specs.FinSet as set
 use Rattle.hol_terms.specs.declared.term.Term.{Term}
 use Rattle.hyp_sets.specs.Sets.{TermSet, only}
-use Rattle.hyp_sets.proofs.Members.{same_members, holds_union, in_left, in_right, holds_remove, holds_only, empty_where_none}
-use Rattle.hyp_sets.proofs.Kept.{union_of_none}
+use Rattle.hyp_sets.proofs.Members.{same_members, holds_union, in_left, in_right, holds_remove, holds_only, empty_where_none, none_among}
+use Rattle.hyp_sets.proofs.Kept.{union_around}
 
 pub union_turned : (s t : TermSet) → set.union s t ≡ set.union t s
 union_turned s t =
@@ -12,7 +12,7 @@ union_turned s t =
     (λ x h. elim (holds_union t s x h) [ inl k ↦ in_right s t x k | inr k ↦ in_left s t x k ])
 
 pub none_joined : (s : TermSet) → set.union set.empty s ≡ s
-none_joined s = sym (union_of_none set.empty s refl)
+none_joined s = sym (union_around set.empty s (none_among s))
 
 -- of two assumptions, both of which are taken out, nothing is left
 pub both_out : (n p : Term) → set.remove (set.union (only n) (set.remove (set.union (only n) (only p)) p)) n ≡ set.empty

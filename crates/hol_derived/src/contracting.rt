@@ -1,4 +1,4 @@
-ghost use Rattle.std.specs.Prelude.{◌≡◌, IfOk, IsTrue, Some, [], ◌∷◌, false};
+ghost use Rattle.std.specs.Prelude.{◌≡◌, ◌≤◌, IfOk, IsTrue, Some, [], ◌∷◌, ◌++◌, false, take, length};
 ghost use Rattle.std.specs.FinSet as set;
 ghost use Rattle.hol_terms.specs.Formulas.{IsFormula};
 ghost use Rattle.hol_terms.specs.Substitution.{instantiated, occurs};
@@ -6,7 +6,7 @@ ghost use Rattle.hol_terms.specs.declared.term.Term.{Free};
 ghost use Rattle.kernel_rules.specs.Connectives.{equal, lambda, is_equal, left_of, right_of};
 ghost use Rattle.kernel_rules.specs.Rules.{seq};
 ghost use Rattle.hol_kernel.specs.Logs.{IsThm, thm};
-ghost use Rattle.hol_kernel.specs.Growth.{Extends, Gives};
+ghost use Rattle.hol_kernel.specs.Growth.{Extends, Gives, SameFacts};
 ghost use Rattle.hol_kernel.specs.Conditions.{own_ty, IsGiven};
 ghost use Rattle.hol_derived.specs.Paths.{part_at, replaced_at};
 ghost use Rattle.hol_derived.specs.Contractions.{contraction as contraction_of, contracted_at, contracted_along};
@@ -18,7 +18,7 @@ use kernel_rules::{is_redex, right};
 use std::alloc::Global;
 use text_kit::{NoMemory, Rows};
 
-/// The least number whose variable of the type isn't in the term.
+/// A number whose variable of the type isn't in the term: the first, as they are tried in turn.
 fn fresh(ty: &Ty, t: &Term) -> Result<u64, NoMemory>
     ensures { IfOk result (λ n. occurs n ty.now t.now ≡ false) }
 {
@@ -44,6 +44,7 @@ fn opened(alloc: Global, n: u64, ty: &Ty, body: &Term) -> Result<Term, NoMemory>
 fn root(log: &mut Log, t: &Term) -> Result<ThmId, NoMemory>
     requires { IsGiven log.old.env.sig t.now (own_ty log.old.env.sig t.now) }
     ensures kept { Extends log.old log.new }
+    ensures facts { SameFacts log.old log.new }
     ensures gives { IfOk result (λ th. Gives log.new th.0 (contraction_of log.old.env.sig [] t.now)) }
 {
     if is_redex(t) {
@@ -53,18 +54,100 @@ fn root(log: &mut Log, t: &Term) -> Result<ThmId, NoMemory>
     }
 }
 
-/// From `G : s = u` to `G : t = t'`, where `t` has `s` at its side and `t'` has `u` there.
+/// `1`, then the side, then the rest of a path.
+fn to_right(alloc: Global, side: u8, more: &[u8]) -> Result<Rows<u8>, NoMemory>
+    ensures { IfOk result (λ p. p ≡ 1 ∷ (side ∷ more.now)) }
+{
+    let mut path = Rows::begin(alloc);
+    path.push(1)?;
+    path.push(side)?;
+    for number in more {
+        path.push(*number)?;
+    }
+    Ok(path)
+}
+
+/// From `G : s = u` to `G : t = t'`, where `t` has `s` at the path `side`, `more` and `t'` has `u` there.
 #[tactic(none)]
-fn lifted(log: &mut Log, t: &Term, eq: ThmId, side: u8) -> Result<ThmId, NoMemory>
+fn lifted(log: &mut Log, t: &Term, eq: ThmId, side: u8, more: &[u8]) -> Result<ThmId, NoMemory>
     requires t { IsGiven log.old.env.sig t.now (own_ty log.old.env.sig t.now) }
     requires eq { IsThm log.old eq.0 }
     requires is { IsTrue (is_equal (thm log.old eq.0).concl) }
-    requires part { part_at (side ∷ []) t.now ≡ Some (left_of (thm log.old eq.0).concl) }
+    requires part { part_at (side ∷ more.now) t.now ≡ Some (left_of (thm log.old eq.0).concl) }
     ensures kept { Extends log.old log.new }
-    ensures gives { IfOk result (λ th. Gives log.new th.0 (seq (thm log.old eq.0).hyps (equal (own_ty log.old.env.sig t.now) t.now (replaced_at (side ∷ []) (right_of (thm log.old eq.0).concl) t.now)))) }
+    ensures facts { SameFacts log.old log.new }
+    ensures gives { IfOk result (λ th. Gives log.new th.0 (seq (thm log.old eq.0).hyps (equal (own_ty log.old.env.sig t.now) t.now (replaced_at (side ∷ more.now) (right_of (thm log.old eq.0).concl) t.now)))) }
 {
+    let path = to_right(log.allocator(), side, more)?;
     let same = log.refl(t)?;
-    replace_along(log, eq, same, &[1, side])
+    replace_along(log, eq, same, path.as_slice())
+}
+
+/// A part of a term, and how many numbers of a path lead to it.
+#[derive(Clone, Copy)]
+struct Reach<'t> {
+    numbers: usize,
+    part: &'t Term,
+}
+
+/// A part of a term, the way of a path that leads to it, and the rest of the path.
+#[derive(Clone, Copy)]
+struct Crossing<'t> {
+    part: &'t Term,
+    way: &'t [u8],
+    rest: &'t [u8],
+}
+
+/// How far a path leads through applications alone.
+fn reached<'t>(t: &'t Term, path: &[u8]) -> Reach<'t>
+    ensures within { result.numbers ≤ length path.now }
+    ensures part { part_at (take result.numbers path.now) t.now ≡ Some result.part.now }
+{
+    match path {
+        [] => Reach {
+            numbers: 0,
+            part: t,
+        },
+        [first, rest @ ..] => match t {
+            Term::App(f, x) => {
+                if *first == 0 {
+                    let reach = reached(f.get(), rest);
+                    Reach {
+                        numbers: reach.numbers + 1,
+                        part: reach.part,
+                    }
+                } else if *first == 1 {
+                    let reach = reached(x.get(), rest);
+                    Reach {
+                        numbers: reach.numbers + 1,
+                        part: reach.part,
+                    }
+                } else {
+                    Reach {
+                        numbers: 0,
+                        part: t,
+                    }
+                }
+            }
+            _ => Reach {
+                numbers: 0,
+                part: t,
+            },
+        },
+    }
+}
+
+/// A path that is cut in two where it leads no further through applications alone.
+fn crossed<'t>(t: &'t Term, path: &'t [u8]) -> Crossing<'t>
+    ensures path { result.way.now ++ result.rest.now ≡ path.now }
+    ensures part { part_at result.way.now t.now ≡ Some result.part.now }
+{
+    let reach = reached(t, path);
+    Crossing {
+        part: reach.part,
+        way: &path[..reach.numbers],
+        rest: &path[reach.numbers..],
+    }
 }
 
 /// `{} : t = s` for the contraction `s` of `t` at the path.
@@ -72,6 +155,7 @@ fn lifted(log: &mut Log, t: &Term, eq: ThmId, side: u8) -> Result<ThmId, NoMemor
 pub(crate) fn contraction(log: &mut Log, t: &Term, path: &[u8]) -> Result<ThmId, NoMemory>
     requires { IsGiven log.old.env.sig t.now (own_ty log.old.env.sig t.now) }
     ensures kept { Extends log.old log.new }
+    ensures facts { SameFacts log.old log.new }
     ensures gives { IfOk result (λ th. Gives log.new th.0 (contraction_of log.old.env.sig path.now t.now)) }
 {
     match path {
@@ -86,16 +170,15 @@ pub(crate) fn contraction(log: &mut Log, t: &Term, path: &[u8]) -> Result<ThmId,
 fn below(log: &mut Log, t: &Term, first: u8, rest: &[u8]) -> Result<ThmId, NoMemory>
     requires { IsGiven log.old.env.sig t.now (own_ty log.old.env.sig t.now) }
     ensures kept { Extends log.old log.new }
+    ensures facts { SameFacts log.old log.new }
     ensures gives { IfOk result (λ th. Gives log.new th.0 (contraction_of log.old.env.sig (first ∷ rest.now) t.now)) }
 {
     match t {
         Term::App(f, x) => {
             if first == 0 {
-                let eq = contraction(log, f.get(), rest)?;
-                lifted(log, t, eq, 0)
+                across(log, t, f.get(), 0, rest)
             } else if first == 1 {
-                let eq = contraction(log, x.get(), rest)?;
-                lifted(log, t, eq, 1)
+                across(log, t, x.get(), 1, rest)
             } else {
                 log.refl(t)
             }
@@ -111,12 +194,29 @@ fn below(log: &mut Log, t: &Term, first: u8, rest: &[u8]) -> Result<ThmId, NoMem
     }
 }
 
+/// The same for a path that goes to a side of an application: it is followed through further applications at once,
+/// as far as it leads, so that two steps carry the equation back over all of them.
+#[cycle(contracts)]
+#[tactic(none)]
+fn across(log: &mut Log, t: &Term, child: &Term, side: u8, rest: &[u8]) -> Result<ThmId, NoMemory>
+    requires t { IsGiven log.old.env.sig t.now (own_ty log.old.env.sig t.now) }
+    requires child { part_at (side ∷ []) t.now ≡ Some child.now }
+    ensures kept { Extends log.old log.new }
+    ensures facts { SameFacts log.old log.new }
+    ensures gives { IfOk result (λ th. Gives log.new th.0 (contraction_of log.old.env.sig (side ∷ rest.now) t.now)) }
+{
+    let crossing = crossed(child, rest);
+    let eq = contraction(log, crossing.part, crossing.rest)?;
+    lifted(log, t, eq, side, crossing.way)
+}
+
 /// The same for a path that goes into the body of a lambda.
 #[cycle(contracts)]
 #[tactic(none)]
 fn under(log: &mut Log, a: &Ty, b: &Term, rest: &[u8]) -> Result<ThmId, NoMemory>
     requires { IsGiven log.old.env.sig (lambda a.now b.now) (own_ty log.old.env.sig (lambda a.now b.now)) }
     ensures kept { Extends log.old log.new }
+    ensures facts { SameFacts log.old log.new }
     ensures gives { IfOk result (λ th. Gives log.new th.0 (contraction_of log.old.env.sig (2 ∷ rest.now) (lambda a.now b.now))) }
 {
     let n = fresh(a, b)?;
@@ -131,6 +231,7 @@ fn under(log: &mut Log, a: &Ty, b: &Term, rest: &[u8]) -> Result<ThmId, NoMemory
 fn in_opened(log: &mut Log, t: Term, path: &[u8]) -> Result<ThmId, NoMemory>
     requires { IsGiven log.old.env.sig t (own_ty log.old.env.sig t) }
     ensures kept { Extends log.old log.new }
+    ensures facts { SameFacts log.old log.new }
     ensures gives { IfOk result (λ th. Gives log.new th.0 (contraction_of log.old.env.sig path.now t)) }
 {
     let eq = contraction(log, &t, path);
@@ -146,6 +247,7 @@ fn turned(log: &mut Log, t: &Term, eq: ThmId, th: ThmId) -> Result<ThmId, NoMemo
     requires th { IsThm log.old th.0 }
     requires is { thm log.old eq.0 ≡ seq set.empty (equal (own_ty log.old.env.sig t.now) t.now (thm log.old th.0).concl) }
     ensures kept { Extends log.old log.new }
+    ensures facts { SameFacts log.old log.new }
     ensures gives { IfOk result (λ r. Gives log.new r.0 (seq (thm log.old th.0).hyps t.now)) }
 {
     let same = log.refl(t)?;
@@ -160,6 +262,7 @@ fn expanded(log: &mut Log, th: ThmId, target: &Term, paths: &[Rows<u8>]) -> Resu
     requires target { IsFormula log.old.env.sig target.now }
     requires redexes { contracted_along paths.now target.now ≡ (thm log.old th.0).concl }
     ensures kept { Extends log.old log.new }
+    ensures facts { SameFacts log.old log.new }
     ensures gives { IfOk result (λ r. Gives log.new r.0 (seq (thm log.old th.0).hyps target.now)) }
 {
     match paths {
@@ -182,6 +285,7 @@ fn expanded_by(
     requires target { IsFormula log.old.env.sig target.now }
     requires redexes { contracted_along rest.now (contracted_at first.now target.now) ≡ (thm log.old th.0).concl }
     ensures kept { Extends log.old log.new }
+    ensures facts { SameFacts log.old log.new }
     ensures gives { IfOk result (λ r. Gives log.new r.0 (seq (thm log.old th.0).hyps target.now)) }
 {
     let eq = contraction(log, target, first)?;
@@ -203,6 +307,7 @@ fn expanded_own(
     requires target { IsFormula log.old.env.sig target }
     requires redexes { contracted_along paths.now target ≡ (thm log.old th.0).concl }
     ensures kept { Extends log.old log.new }
+    ensures facts { SameFacts log.old log.new }
     ensures gives { IfOk result (λ r. Gives log.new r.0 (seq (thm log.old th.0).hyps target)) }
 {
     let reached = expanded(log, th, &target, paths);
@@ -225,6 +330,7 @@ pub fn beta_expand(
     requires target { IsFormula log.old.env.sig target.now }
     requires redexes { contracted_along paths.now target.now ≡ (thm log.old th.0).concl }
     ensures kept { Extends log.old log.new }
+    ensures facts { SameFacts log.old log.new }
     ensures gives { IfOk result (λ r. Gives log.new r.0 (seq (thm log.old th.0).hyps target.now)) }
 {
     expanded(log, th, target, paths.as_slice())

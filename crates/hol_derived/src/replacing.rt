@@ -3,7 +3,7 @@ ghost use Rattle.std.specs.FinSet as set;
 ghost use Rattle.kernel_rules.specs.Connectives.{is_equal, left_of, right_of};
 ghost use Rattle.kernel_rules.specs.Rules.{seq};
 ghost use Rattle.hol_kernel.specs.Logs.{IsThm, thm};
-ghost use Rattle.hol_kernel.specs.Growth.{Extends, Gives};
+ghost use Rattle.hol_kernel.specs.Growth.{Extends, Gives, SameFacts};
 ghost use Rattle.hol_derived.specs.Paths.{part_at, replaced_at};
 ghost use Rattle.hol_derived.specs.Contexts.{IsContext};
 
@@ -67,6 +67,7 @@ pub(crate) fn replace_along(
     requires is { IsTrue (is_equal (thm log.old eq.0).concl) }
     requires part { part_at path.now (thm log.old th.0).concl ≡ Some (left_of (thm log.old eq.0).concl) }
     ensures kept { Extends log.old log.new }
+    ensures facts { SameFacts log.old log.new }
     ensures gives { IfOk result (λ r. Gives log.new r.0 (seq (set.union (thm log.old eq.0).hyps (thm log.old th.0).hyps) (replaced_at path.now (right_of (thm log.old eq.0).concl) (thm log.old th.0).concl))) }
 {
     let property = context(&*log, eq, th, path)?;
@@ -83,6 +84,7 @@ pub fn replace_at(log: &mut Log, eq: ThmId, th: ThmId, path: &Rows<u8>) -> Resul
     requires is { IsTrue (is_equal (thm log.old eq.0).concl) }
     requires part { part_at path.now (thm log.old th.0).concl ≡ Some (left_of (thm log.old eq.0).concl) }
     ensures kept { Extends log.old log.new }
+    ensures facts { SameFacts log.old log.new }
     ensures gives { IfOk result (λ r. Gives log.new r.0 (seq (set.union (thm log.old eq.0).hyps (thm log.old th.0).hyps) (replaced_at path.now (right_of (thm log.old eq.0).concl) (thm log.old th.0).concl))) }
 {
     replace_along(log, eq, th, path.as_slice())

@@ -5,7 +5,7 @@ ghost use Rattle.hyp_sets.specs.Sets.{only};
 ghost use Rattle.kernel_rules.specs.Connectives.{falsum, neg, disj};
 ghost use Rattle.kernel_rules.specs.Rules.{seq};
 ghost use Rattle.hol_kernel.specs.Logs.{IsThm, thm};
-ghost use Rattle.hol_kernel.specs.Growth.{Extends, Gives};
+ghost use Rattle.hol_kernel.specs.Growth.{Extends, Gives, SameFacts};
 
 use hol_kernel::{Log, ThmId};
 use hol_terms::Term;
@@ -34,6 +34,7 @@ fn clash(log: &mut Log, p: &Term, against: ThmId) -> Result<ThmId, NoMemory>
     requires against { IsThm log.old against.0 }
     requires denies { (thm log.old against.0).concl ≡ neg (disj p.now (neg p.now)) }
     ensures kept { Extends log.old log.new }
+    ensures facts { SameFacts log.old log.new }
     ensures gives { IfOk result (λ th. Gives log.new th.0 (seq (set.union (thm log.old against.0).hyps (only p.now)) falsum)) }
 {
     let other = negation(log.allocator(), p)?;
@@ -49,6 +50,7 @@ fn denied(log: &mut Log, p: &Term, against: ThmId) -> Result<ThmId, NoMemory>
     requires against { IsThm log.old against.0 }
     requires denies { (thm log.old against.0).concl ≡ neg (disj p.now (neg p.now)) }
     ensures kept { Extends log.old log.new }
+    ensures facts { SameFacts log.old log.new }
     ensures gives { IfOk result (λ th. Gives log.new th.0 (seq (set.remove (set.union (thm log.old against.0).hyps (only p.now)) p.now) (disj p.now (neg p.now)))) }
 {
     let refuted = clash(log, p, against)?;
@@ -61,6 +63,7 @@ fn denied(log: &mut Log, p: &Term, against: ThmId) -> Result<ThmId, NoMemory>
 pub fn excluded_middle(log: &mut Log, p: &Term) -> Result<ThmId, NoMemory>
     requires { IsFormula log.old.env.sig p.now }
     ensures kept { Extends log.old log.new }
+    ensures facts { SameFacts log.old log.new }
     ensures gives { IfOk result (λ th. Gives log.new th.0 (seq set.empty (disj p.now (neg p.now)))) }
 {
     let against = deny(log, p)?;
@@ -74,6 +77,7 @@ pub fn excluded_middle(log: &mut Log, p: &Term) -> Result<ThmId, NoMemory>
 fn deny(log: &mut Log, p: &Term) -> Result<ThmId, NoMemory>
     requires { IsFormula log.old.env.sig p.now }
     ensures kept { Extends log.old log.new }
+    ensures facts { SameFacts log.old log.new }
     ensures gives { IfOk result (λ th. Gives log.new th.0 (seq (only (neg (disj p.now (neg p.now)))) (neg (disj p.now (neg p.now))))) }
 {
     let against = denial(log.allocator(), p)?;
@@ -87,6 +91,7 @@ fn conclude(log: &mut Log, p: &Term, refuted: ThmId) -> Result<ThmId, NoMemory>
     requires refuted { IsThm log.old refuted.0 }
     requires fits { (thm log.old refuted.0).concl ≡ falsum }
     ensures kept { Extends log.old log.new }
+    ensures facts { SameFacts log.old log.new }
     ensures gives { IfOk result (λ th. Gives log.new th.0 (seq (set.remove (thm log.old refuted.0).hyps (neg (disj p.now (neg p.now)))) (disj p.now (neg p.now)))) }
 {
     let whole = middle(log.allocator(), p)?;
@@ -101,6 +106,7 @@ pub fn cases(log: &mut Log, p: &Term, yes: ThmId, no: ThmId) -> Result<ThmId, No
     requires no { IsThm log.old no.0 }
     requires alike { (thm log.old yes.0).concl ≡ (thm log.old no.0).concl }
     ensures kept { Extends log.old log.new }
+    ensures facts { SameFacts log.old log.new }
     ensures gives { IfOk result (λ th. Gives log.new th.0 (seq (set.union (set.remove (thm log.old yes.0).hyps p.now) (set.remove (thm log.old no.0).hyps (neg p.now))) (thm log.old yes.0).concl)) }
 {
     let either = excluded_middle(log, p)?;

@@ -7,3 +7,4 @@ pub mod Applying
 pub mod Ending
 pub mod Walking
 pub mod Making
+pub mod FactSteps

@@ -3,7 +3,7 @@ use Rattle.std.specs.Prelude.{◌≡◌, ℕ, ◌<◌, ◌≤◌, List, [], ◌�
 use Rattle.kernel_rules.specs.declared.step.Step.{Step}
 use Rattle.kernel_rules.specs.declared.step.ThmId.{ThmId}
 use Rattle.kernel_rules.specs.declared.sequent.Sequent.{Sequent}
-use Rattle.kernel_rules.specs.Derivations.{sequent}
+use Rattle.kernel_rules.specs.Derivations.{sequent, leaves}
 use Rattle.hol_kernel.specs.declared.fault.StepFault.{StepFault}
 use Rattle.hol_kernel.specs.declared.fault.StepFault.TheVariants.{Refused, NoMemory}
 use Rattle.hol_kernel.specs.Logs.{Logged, seq_at, IsThm}
@@ -14,6 +14,10 @@ pub record Extends (old new : Logged) : Type 0 where
   pub steps : (more : List Step) × (new.steps ≡ old.steps ++ more)
   pub longer : length old.sequents ≤ length new.sequents
   pub earlier : (i : ℕ) → i < length old.sequents → seq_at new.sequents i ≡ seq_at old.sequents i
+
+-- no fact step is added: the log rests on the same facts
+abbrev pub SameFacts : Logged → Logged → Type 0
+SameFacts old new = leaves new.steps ≡ leaves old.steps
 
 -- theorem `r` is `q`
 pub record Gives (new : Logged) (r : ℕ) (q : Sequent) : Type 0 where

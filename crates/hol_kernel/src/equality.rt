@@ -5,7 +5,7 @@ ghost use Rattle.hyp_sets.specs.Sets.{absent};
 ghost use Rattle.kernel_rules.specs.Connectives.{lambda_over, imp, equal, left_of, right_of, head_ty, is_imp, is_equal, is_redex, applied_to, contracted};
 ghost use Rattle.kernel_rules.specs.Rules.{seq};
 ghost use Rattle.hol_kernel.specs.Logs.{IsThm, thm};
-ghost use Rattle.hol_kernel.specs.Growth.{Extends, Gives, Made};
+ghost use Rattle.hol_kernel.specs.Growth.{Extends, Gives, Made, SameFacts};
 ghost use Rattle.hol_kernel.specs.Conditions.{own_ty, IsGiven, IsProperty};
 
 use crate::Log;
@@ -19,22 +19,12 @@ impl<'e> Log<'e> {
     pub fn refl(&mut self, t: &Term) -> Result<ThmId, NoMemory>
         requires { IsGiven self.old.env.sig t.now (own_ty self.old.env.sig t.now) }
         ensures kept { Extends self.old self.new }
+        ensures facts { SameFacts self.old self.new }
         ensures gives { IfOk result (λ th. Gives self.new th.0 (seq set.empty (equal (own_ty self.old.env.sig t.now) t.now t.now))) }
         ensures made { Made self.old self.new (Step.Refl t.now) result }
     {
         let value = copy(t)?;
         self.make(Step::Refl(value))
-    }
-
-    /// `refl` with what it is given by value.
-    #[tactic(none)]
-    pub fn refl_own(&mut self, t: Term) -> Result<ThmId, NoMemory>
-        requires { IsGiven self.old.env.sig t (own_ty self.old.env.sig t) }
-        ensures kept { Extends self.old self.new }
-        ensures gives { IfOk result (λ th. Gives self.new th.0 (seq set.empty (equal (own_ty self.old.env.sig t) t t))) }
-        ensures made { Made self.old self.new (Step.Refl t) result }
-    {
-        self.make(Step::Refl(t))
     }
 
     /// From `G : s = t` and `D : f@s` to `G + D : f@t`.
@@ -46,6 +36,7 @@ impl<'e> Log<'e> {
         requires f { IsProperty self.old.env.sig f.now (head_ty (thm self.old eq.0).concl) }
         requires fits { (thm self.old a.0).concl ≡ applied_to f.now (left_of (thm self.old eq.0).concl) }
         ensures kept { Extends self.old self.new }
+        ensures facts { SameFacts self.old self.new }
         ensures gives { IfOk result (λ th. Gives self.new th.0 (seq (set.union (thm self.old eq.0).hyps (thm self.old a.0).hyps) (applied_to f.now (right_of (thm self.old eq.0).concl)))) }
         ensures made { Made self.old self.new (Step.Subst f.now eq a) result }
     {
@@ -62,6 +53,7 @@ impl<'e> Log<'e> {
         requires f { IsProperty self.old.env.sig f (head_ty (thm self.old eq.0).concl) }
         requires fits { (thm self.old a.0).concl ≡ applied_to f (left_of (thm self.old eq.0).concl) }
         ensures kept { Extends self.old self.new }
+        ensures facts { SameFacts self.old self.new }
         ensures gives { IfOk result (λ th. Gives self.new th.0 (seq (set.union (thm self.old eq.0).hyps (thm self.old a.0).hyps) (applied_to f (right_of (thm self.old eq.0).concl)))) }
         ensures made { Made self.old self.new (Step.Subst f eq a) result }
     {
@@ -74,23 +66,12 @@ impl<'e> Log<'e> {
         requires t { IsGiven self.old.env.sig t.now (own_ty self.old.env.sig t.now) }
         requires fits { IsTrue (is_redex t.now) }
         ensures kept { Extends self.old self.new }
+        ensures facts { SameFacts self.old self.new }
         ensures gives { IfOk result (λ th. Gives self.new th.0 (seq set.empty (equal (own_ty self.old.env.sig t.now) t.now (contracted t.now)))) }
         ensures made { Made self.old self.new (Step.Beta t.now) result }
     {
         let value = copy(t)?;
         self.make(Step::Beta(value))
-    }
-
-    /// `beta` with what it is given by value.
-    #[tactic(none)]
-    pub fn beta_own(&mut self, t: Term) -> Result<ThmId, NoMemory>
-        requires t { IsGiven self.old.env.sig t (own_ty self.old.env.sig t) }
-        requires fits { IsTrue (is_redex t) }
-        ensures kept { Extends self.old self.new }
-        ensures gives { IfOk result (λ th. Gives self.new th.0 (seq set.empty (equal (own_ty self.old.env.sig t) t (contracted t)))) }
-        ensures made { Made self.old self.new (Step.Beta t) result }
-    {
-        self.make(Step::Beta(t))
     }
 
     /// From `G : s = t` to `G : (\x. s) = (\x. t)` for a variable `x`, of this number and type, that isn't in
@@ -102,25 +83,12 @@ impl<'e> Log<'e> {
         requires is { IsTrue (is_equal (thm self.old a.0).concl) }
         requires lacks { IsTrue (absent n ty.now (thm self.old a.0).hyps) }
         ensures kept { Extends self.old self.new }
+        ensures facts { SameFacts self.old self.new }
         ensures gives { IfOk result (λ th. Gives self.new th.0 (seq (thm self.old a.0).hyps (equal (function_ty ty.now (head_ty (thm self.old a.0).concl)) (lambda_over n ty.now (left_of (thm self.old a.0).concl)) (lambda_over n ty.now (right_of (thm self.old a.0).concl))))) }
         ensures made { Made self.old self.new (Step.Abs n ty.now a) result }
     {
         let kind = copy_ty(ty)?;
         self.make(Step::Abs(n, kind, a))
-    }
-
-    /// `abs` with what it is given by value.
-    #[tactic(none)]
-    pub fn abs_own(&mut self, n: u64, ty: Ty, a: ThmId) -> Result<ThmId, NoMemory>
-        requires ty { IsTrue (ty_fits self.old.env.sig.types ty) }
-        requires a { IsThm self.old a.0 }
-        requires is { IsTrue (is_equal (thm self.old a.0).concl) }
-        requires lacks { IsTrue (absent n ty (thm self.old a.0).hyps) }
-        ensures kept { Extends self.old self.new }
-        ensures gives { IfOk result (λ th. Gives self.new th.0 (seq (thm self.old a.0).hyps (equal (function_ty ty (head_ty (thm self.old a.0).concl)) (lambda_over n ty (left_of (thm self.old a.0).concl)) (lambda_over n ty (right_of (thm self.old a.0).concl))))) }
-        ensures made { Made self.old self.new (Step.Abs n ty a) result }
-    {
-        self.make(Step::Abs(n, ty, a))
     }
 
     /// From `G : a ==> b` and `D : b ==> a` to `G + D : a = b`.
@@ -131,6 +99,7 @@ impl<'e> Log<'e> {
         requires is { IsTrue (is_imp (thm self.old ab.0).concl) }
         requires converse { (thm self.old ba.0).concl ≡ imp (right_of (thm self.old ab.0).concl) (left_of (thm self.old ab.0).concl) }
         ensures kept { Extends self.old self.new }
+        ensures facts { SameFacts self.old self.new }
         ensures gives { IfOk result (λ th. Gives self.new th.0 (seq (set.union (thm self.old ab.0).hyps (thm self.old ba.0).hyps) (equal bool_ty (left_of (thm self.old ab.0).concl) (right_of (thm self.old ab.0).concl)))) }
         ensures made { Made self.old self.new (Step.Iff ab ba) result }
     {

@@ -9,6 +9,7 @@ mod log;
 mod propositional;
 mod proven;
 mod quantifiers;
+mod work;
 
 pub use derivation::checked;
 pub use fault::StepFault;

@@ -3,14 +3,15 @@ ghost use Rattle.std.specs.List.{list_all};
 ghost use Rattle.std.specs.FinSet as set;
 ghost use Rattle.hol_terms.specs.Formulas.{IsFormula, is_formula};
 ghost use Rattle.hyp_sets.specs.Sets.{set_of};
-ghost use Rattle.kernel_rules.specs.Derivations.{derived, sequent, last_of, Proves};
+ghost use Rattle.kernel_rules.specs.Derivations.{derived, leaf, sequent, last_of, Proves};
 ghost use Rattle.kernel_rules.specs.Rules.{seq};
 ghost use Rattle.kernel_rules.specs.Formulas.{AreOver};
 ghost use Rattle.hol_kernel.specs.Logs.{IsThm, thm};
-ghost use Rattle.hol_kernel.specs.Growth.{Attempts, Extends, Made};
+ghost use Rattle.hol_kernel.specs.Growth.{Attempts, Extends, Made, SameFacts};
 
 use crate::append::try_append;
 use crate::fault::StepFault;
+use crate::work::{allowed, left_after};
 use hol_terms::{Env, Term, same};
 use kernel_rules::{Sequent, Step, ThmId};
 use std::alloc::Global;
@@ -20,11 +21,17 @@ use text_kit::{NoMemory, Rows};
 /// Steps and their sequents, each of which follows by its step's rule from earlier ones.
 ///
 /// A theorem is a place in the log.
+///
+/// The log counts the nodes that its rules look at, terms taken as trees and their types counted. A step answers
+/// want of memory where they would come to more than 2^28 and 2^14 for each of the first 2^18 steps, or where a term
+/// or a type that it is put to is deeper than `hol_terms::DEEPEST`. So parts that a file's steps share many times
+/// over can't keep it at work, and no walk goes deeper than the stack.
 #[derive(Drop)]
 pub struct Log<'e> {
     env: &'e Env,
     steps: Rows<Step>,
     sequents: Rows<Sequent>,
+    spent: u64,
     alloc: Global,
 }
 
@@ -79,6 +86,7 @@ impl<'e> Log<'e> {
             env,
             steps: Rows::begin(alloc),
             sequents: Rows::begin(alloc),
+            spent: 0,
             alloc,
         }
     }
@@ -156,6 +164,7 @@ impl<'e> Log<'e> {
             env: _,
             steps,
             sequents: _,
+            spent: _,
             alloc: _,
         } = self;
         steps
@@ -167,13 +176,30 @@ impl<'e> Log<'e> {
         ensures kept { Extends self.old self.new }
         ensures gives { Attempts self.old self.new step result }
     {
-        try_append(
-            self.alloc,
-            self.env,
-            &mut self.steps,
-            &mut self.sequents,
-            step,
-        )
+        match self.spent_with(&step) {
+            Ok(spent) => {
+                self.spent = spent;
+                try_append(
+                    self.alloc,
+                    self.env,
+                    &mut self.steps,
+                    &mut self.sequents,
+                    step,
+                )
+            }
+            Err(NoMemory) => {
+                drop(step);
+                Err(StepFault::NoMemory)
+            }
+        }
+    }
+
+    /// The nodes that will have been looked at with this step, or want of memory where they are too many.
+    #[tactic(auto)]
+    fn spent_with(&self, step: &Step) -> Result<u64, NoMemory> {
+        let most = allowed(self.steps.len() as u64).saturating_sub(self.spent);
+        let left = left_after(&self.env.sig, &self.sequents, step, most)?;
+        Ok(self.spent.saturating_add(most.saturating_sub(left)))
     }
 
     /// Appends a step that has a sequent.
@@ -181,6 +207,7 @@ impl<'e> Log<'e> {
     pub(crate) fn make(&mut self, step: Step) -> Result<ThmId, NoMemory>
         requires { IsSome (sequent self.old.env step self.old.sequents) }
         ensures kept { Extends self.old self.new }
+        ensures facts { leaf step ≡ [] → SameFacts self.old self.new }
         ensures made { Made self.old self.new step result }
     {
         match self.try_step(step) {

@@ -5,7 +5,7 @@ ghost use Rattle.hyp_sets.specs.Sets.{only};
 ghost use Rattle.kernel_rules.specs.Connectives.{verum, falsum, neg, conj, disj, imp, left_of, right_of, is_conj, is_disj};
 ghost use Rattle.kernel_rules.specs.Rules.{seq};
 ghost use Rattle.hol_kernel.specs.Logs.{IsThm, thm, fact_at};
-ghost use Rattle.hol_kernel.specs.Growth.{Extends, Gives, Made};
+ghost use Rattle.hol_kernel.specs.Growth.{Extends, Gives, Made, SameFacts};
 ghost use Rattle.hol_kernel.specs.Conditions.{IsImp};
 
 use crate::Log;
@@ -30,6 +30,7 @@ impl<'e> Log<'e> {
     pub fn assume(&mut self, t: &Term) -> Result<ThmId, NoMemory>
         requires { IsFormula self.old.env.sig t.now }
         ensures kept { Extends self.old self.new }
+        ensures facts { SameFacts self.old self.new }
         ensures gives { IfOk result (λ th. Gives self.new th.0 (seq (only t.now) t.now)) }
         ensures made { Made self.old self.new (Step.Assume t.now) result }
     {
@@ -42,6 +43,7 @@ impl<'e> Log<'e> {
     pub fn assume_own(&mut self, t: Term) -> Result<ThmId, NoMemory>
         requires { IsFormula self.old.env.sig t }
         ensures kept { Extends self.old self.new }
+        ensures facts { SameFacts self.old self.new }
         ensures gives { IfOk result (λ th. Gives self.new th.0 (seq (only t) t)) }
         ensures made { Made self.old self.new (Step.Assume t) result }
     {
@@ -54,6 +56,7 @@ impl<'e> Log<'e> {
         requires t { IsFormula self.old.env.sig t.now }
         requires a { IsThm self.old a.0 }
         ensures kept { Extends self.old self.new }
+        ensures facts { SameFacts self.old self.new }
         ensures gives { IfOk result (λ th. Gives self.new th.0 (seq (set.remove (thm self.old a.0).hyps t.now) (imp t.now (thm self.old a.0).concl))) }
         ensures made { Made self.old self.new (Step.ImpIntro t.now a) result }
     {
@@ -67,6 +70,7 @@ impl<'e> Log<'e> {
         requires t { IsFormula self.old.env.sig t }
         requires a { IsThm self.old a.0 }
         ensures kept { Extends self.old self.new }
+        ensures facts { SameFacts self.old self.new }
         ensures gives { IfOk result (λ th. Gives self.new th.0 (seq (set.remove (thm self.old a.0).hyps t) (imp t (thm self.old a.0).concl))) }
         ensures made { Made self.old self.new (Step.ImpIntro t a) result }
     {
@@ -80,6 +84,7 @@ impl<'e> Log<'e> {
         requires a { IsThm self.old a.0 }
         requires fits { IsImp (thm self.old ab.0).concl (thm self.old a.0).concl }
         ensures kept { Extends self.old self.new }
+        ensures facts { SameFacts self.old self.new }
         ensures gives { IfOk result (λ th. Gives self.new th.0 (seq (set.union (thm self.old ab.0).hyps (thm self.old a.0).hyps) (right_of (thm self.old ab.0).concl))) }
         ensures made { Made self.old self.new (Step.ImpElim ab a) result }
     {
@@ -92,6 +97,7 @@ impl<'e> Log<'e> {
         requires a { IsThm self.old a.0 }
         requires b { IsThm self.old b.0 }
         ensures kept { Extends self.old self.new }
+        ensures facts { SameFacts self.old self.new }
         ensures gives { IfOk result (λ th. Gives self.new th.0 (seq (set.union (thm self.old a.0).hyps (thm self.old b.0).hyps) (conj (thm self.old a.0).concl (thm self.old b.0).concl))) }
         ensures made { Made self.old self.new (Step.AndIntro a b) result }
     {
@@ -104,6 +110,7 @@ impl<'e> Log<'e> {
         requires ab { IsThm self.old ab.0 }
         requires fits { IsTrue (is_conj (thm self.old ab.0).concl) }
         ensures kept { Extends self.old self.new }
+        ensures facts { SameFacts self.old self.new }
         ensures gives { IfOk result (λ th. Gives self.new th.0 (seq (thm self.old ab.0).hyps (left_of (thm self.old ab.0).concl))) }
         ensures made { Made self.old self.new (Step.AndLeft ab) result }
     {
@@ -116,6 +123,7 @@ impl<'e> Log<'e> {
         requires ab { IsThm self.old ab.0 }
         requires fits { IsTrue (is_conj (thm self.old ab.0).concl) }
         ensures kept { Extends self.old self.new }
+        ensures facts { SameFacts self.old self.new }
         ensures gives { IfOk result (λ th. Gives self.new th.0 (seq (thm self.old ab.0).hyps (right_of (thm self.old ab.0).concl))) }
         ensures made { Made self.old self.new (Step.AndRight ab) result }
     {
@@ -128,6 +136,7 @@ impl<'e> Log<'e> {
         requires t { IsFormula self.old.env.sig t.now }
         requires a { IsThm self.old a.0 }
         ensures kept { Extends self.old self.new }
+        ensures facts { SameFacts self.old self.new }
         ensures gives { IfOk result (λ th. Gives self.new th.0 (seq (thm self.old a.0).hyps (disj (thm self.old a.0).concl t.now))) }
         ensures made { Made self.old self.new (Step.OrLeft t.now a) result }
     {
@@ -141,6 +150,7 @@ impl<'e> Log<'e> {
         requires t { IsFormula self.old.env.sig t }
         requires a { IsThm self.old a.0 }
         ensures kept { Extends self.old self.new }
+        ensures facts { SameFacts self.old self.new }
         ensures gives { IfOk result (λ th. Gives self.new th.0 (seq (thm self.old a.0).hyps (disj (thm self.old a.0).concl t))) }
         ensures made { Made self.old self.new (Step.OrLeft t a) result }
     {
@@ -153,23 +163,12 @@ impl<'e> Log<'e> {
         requires t { IsFormula self.old.env.sig t.now }
         requires b { IsThm self.old b.0 }
         ensures kept { Extends self.old self.new }
+        ensures facts { SameFacts self.old self.new }
         ensures gives { IfOk result (λ th. Gives self.new th.0 (seq (thm self.old b.0).hyps (disj t.now (thm self.old b.0).concl))) }
         ensures made { Made self.old self.new (Step.OrRight t.now b) result }
     {
         let value = copy(t)?;
         self.make(Step::OrRight(value, b))
-    }
-
-    /// `or_right` with what it is given by value.
-    #[tactic(none)]
-    pub fn or_right_own(&mut self, t: Term, b: ThmId) -> Result<ThmId, NoMemory>
-        requires t { IsFormula self.old.env.sig t }
-        requires b { IsThm self.old b.0 }
-        ensures kept { Extends self.old self.new }
-        ensures gives { IfOk result (λ th. Gives self.new th.0 (seq (thm self.old b.0).hyps (disj t (thm self.old b.0).concl))) }
-        ensures made { Made self.old self.new (Step.OrRight t b) result }
-    {
-        self.make(Step::OrRight(t, b))
     }
 
     /// From `G : a | b`, `D : c` and `E : c` to `G + (D - a) + (E - b) : c`.
@@ -181,6 +180,7 @@ impl<'e> Log<'e> {
         requires fits { IsTrue (is_disj (thm self.old ab.0).concl) }
         requires alike { (thm self.old l.0).concl ≡ (thm self.old r.0).concl }
         ensures kept { Extends self.old self.new }
+        ensures facts { SameFacts self.old self.new }
         ensures gives { IfOk result (λ th. Gives self.new th.0 (seq (set.union (set.union (thm self.old ab.0).hyps (set.remove (thm self.old l.0).hyps (left_of (thm self.old ab.0).concl))) (set.remove (thm self.old r.0).hyps (right_of (thm self.old ab.0).concl))) (thm self.old l.0).concl)) }
         ensures made { Made self.old self.new (Step.OrElim ab l r) result }
     {
@@ -194,24 +194,12 @@ impl<'e> Log<'e> {
         requires a { IsThm self.old a.0 }
         requires fits { (thm self.old a.0).concl ≡ falsum }
         ensures kept { Extends self.old self.new }
+        ensures facts { SameFacts self.old self.new }
         ensures gives { IfOk result (λ th. Gives self.new th.0 (seq (set.remove (thm self.old a.0).hyps t.now) (neg t.now))) }
         ensures made { Made self.old self.new (Step.NotIntro t.now a) result }
     {
         let value = copy(t)?;
         self.make(Step::NotIntro(value, a))
-    }
-
-    /// `not_intro` with what it is given by value.
-    #[tactic(none)]
-    pub fn not_intro_own(&mut self, t: Term, a: ThmId) -> Result<ThmId, NoMemory>
-        requires t { IsFormula self.old.env.sig t }
-        requires a { IsThm self.old a.0 }
-        requires fits { (thm self.old a.0).concl ≡ falsum }
-        ensures kept { Extends self.old self.new }
-        ensures gives { IfOk result (λ th. Gives self.new th.0 (seq (set.remove (thm self.old a.0).hyps t) (neg t))) }
-        ensures made { Made self.old self.new (Step.NotIntro t a) result }
-    {
-        self.make(Step::NotIntro(t, a))
     }
 
     /// From `G : ~a` and `D : a` to `G + D : false`.
@@ -221,6 +209,7 @@ impl<'e> Log<'e> {
         requires a { IsThm self.old a.0 }
         requires fits { (thm self.old na.0).concl ≡ neg (thm self.old a.0).concl }
         ensures kept { Extends self.old self.new }
+        ensures facts { SameFacts self.old self.new }
         ensures gives { IfOk result (λ th. Gives self.new th.0 (seq (set.union (thm self.old na.0).hyps (thm self.old a.0).hyps) falsum)) }
         ensures made { Made self.old self.new (Step.NotElim na a) result }
     {
@@ -231,6 +220,7 @@ impl<'e> Log<'e> {
     #[tactic(none)]
     pub fn true_intro(&mut self) -> Result<ThmId, NoMemory>
         ensures kept { Extends self.old self.new }
+        ensures facts { SameFacts self.old self.new }
         ensures gives { IfOk result (λ th. Gives self.new th.0 (seq set.empty verum)) }
         ensures made { Made self.old self.new Step.TrueIntro result }
     {
@@ -244,6 +234,7 @@ impl<'e> Log<'e> {
         requires a { IsThm self.old a.0 }
         requires fits { (thm self.old a.0).concl ≡ falsum }
         ensures kept { Extends self.old self.new }
+        ensures facts { SameFacts self.old self.new }
         ensures gives { IfOk result (λ th. Gives self.new th.0 (seq (set.remove (thm self.old a.0).hyps (neg t.now)) t.now)) }
         ensures made { Made self.old self.new (Step.Classical t.now a) result }
     {
@@ -258,6 +249,7 @@ impl<'e> Log<'e> {
         requires a { IsThm self.old a.0 }
         requires fits { (thm self.old a.0).concl ≡ falsum }
         ensures kept { Extends self.old self.new }
+        ensures facts { SameFacts self.old self.new }
         ensures gives { IfOk result (λ th. Gives self.new th.0 (seq (set.remove (thm self.old a.0).hyps (neg t)) t)) }
         ensures made { Made self.old self.new (Step.Classical t a) result }
     {

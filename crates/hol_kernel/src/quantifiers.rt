@@ -5,7 +5,7 @@ ghost use Rattle.hyp_sets.specs.Sets.{absent, image};
 ghost use Rattle.kernel_rules.specs.Connectives.{lambda_over, all, some, chosen, right_of, head_ty, is_all, is_some_of, applied_to};
 ghost use Rattle.kernel_rules.specs.Rules.{seq};
 ghost use Rattle.hol_kernel.specs.Logs.{IsThm, thm};
-ghost use Rattle.hol_kernel.specs.Growth.{Extends, Gives, Made};
+ghost use Rattle.hol_kernel.specs.Growth.{Extends, Gives, Made, SameFacts};
 ghost use Rattle.hol_kernel.specs.Conditions.{own_ty, IsGiven, IsProperty};
 
 use crate::Log;
@@ -21,24 +21,12 @@ impl<'e> Log<'e> {
         requires a { IsThm self.old a.0 }
         requires lacks { IsTrue (absent n ty.now (thm self.old a.0).hyps) }
         ensures kept { Extends self.old self.new }
+        ensures facts { SameFacts self.old self.new }
         ensures gives { IfOk result (λ th. Gives self.new th.0 (seq (thm self.old a.0).hyps (all ty.now (lambda_over n ty.now (thm self.old a.0).concl)))) }
         ensures made { Made self.old self.new (Step.AllIntro n ty.now a) result }
     {
         let kind = copy_ty(ty)?;
         self.make(Step::AllIntro(n, kind, a))
-    }
-
-    /// `all_intro` with what it is given by value.
-    #[tactic(none)]
-    pub fn all_intro_own(&mut self, n: u64, ty: Ty, a: ThmId) -> Result<ThmId, NoMemory>
-        requires ty { IsTrue (ty_fits self.old.env.sig.types ty) }
-        requires a { IsThm self.old a.0 }
-        requires lacks { IsTrue (absent n ty (thm self.old a.0).hyps) }
-        ensures kept { Extends self.old self.new }
-        ensures gives { IfOk result (λ th. Gives self.new th.0 (seq (thm self.old a.0).hyps (all ty (lambda_over n ty (thm self.old a.0).concl)))) }
-        ensures made { Made self.old self.new (Step.AllIntro n ty a) result }
-    {
-        self.make(Step::AllIntro(n, ty, a))
     }
 
     /// From `G : All f` to `G : f@t`.
@@ -48,24 +36,12 @@ impl<'e> Log<'e> {
         requires fits { IsTrue (is_all (thm self.old a.0).concl) }
         requires t { IsGiven self.old.env.sig t.now (head_ty (thm self.old a.0).concl) }
         ensures kept { Extends self.old self.new }
+        ensures facts { SameFacts self.old self.new }
         ensures gives { IfOk result (λ th. Gives self.new th.0 (seq (thm self.old a.0).hyps (applied_to (right_of (thm self.old a.0).concl) t.now))) }
         ensures made { Made self.old self.new (Step.AllElim t.now a) result }
     {
         let value = copy(t)?;
         self.make(Step::AllElim(value, a))
-    }
-
-    /// `all_elim` with what it is given by value.
-    #[tactic(none)]
-    pub fn all_elim_own(&mut self, t: Term, a: ThmId) -> Result<ThmId, NoMemory>
-        requires a { IsThm self.old a.0 }
-        requires fits { IsTrue (is_all (thm self.old a.0).concl) }
-        requires t { IsGiven self.old.env.sig t (head_ty (thm self.old a.0).concl) }
-        ensures kept { Extends self.old self.new }
-        ensures gives { IfOk result (λ th. Gives self.new th.0 (seq (thm self.old a.0).hyps (applied_to (right_of (thm self.old a.0).concl) t))) }
-        ensures made { Made self.old self.new (Step.AllElim t a) result }
-    {
-        self.make(Step::AllElim(t, a))
     }
 
     /// From `G : f@t` to `G : Ex f`.
@@ -76,6 +52,7 @@ impl<'e> Log<'e> {
         requires a { IsThm self.old a.0 }
         requires fits { (thm self.old a.0).concl ≡ applied_to f.now t.now }
         ensures kept { Extends self.old self.new }
+        ensures facts { SameFacts self.old self.new }
         ensures gives { IfOk result (λ th. Gives self.new th.0 (seq (thm self.old a.0).hyps (some (own_ty self.old.env.sig t.now) f.now))) }
         ensures made { Made self.old self.new (Step.ExIntro f.now t.now a) result }
     {
@@ -84,26 +61,13 @@ impl<'e> Log<'e> {
         self.make(Step::ExIntro(property, value, a))
     }
 
-    /// `ex_intro` with what it is given by value.
-    #[tactic(none)]
-    pub fn ex_intro_own(&mut self, f: Term, t: Term, a: ThmId) -> Result<ThmId, NoMemory>
-        requires t { IsGiven self.old.env.sig t (own_ty self.old.env.sig t) }
-        requires f { IsProperty self.old.env.sig f (own_ty self.old.env.sig t) }
-        requires a { IsThm self.old a.0 }
-        requires fits { (thm self.old a.0).concl ≡ applied_to f t }
-        ensures kept { Extends self.old self.new }
-        ensures gives { IfOk result (λ th. Gives self.new th.0 (seq (thm self.old a.0).hyps (some (own_ty self.old.env.sig t) f))) }
-        ensures made { Made self.old self.new (Step.ExIntro f t a) result }
-    {
-        self.make(Step::ExIntro(f, t, a))
-    }
-
     /// From `G : Ex f` to `G : f@(Eps f)`.
     #[tactic(none)]
     pub fn choose(&mut self, a: ThmId) -> Result<ThmId, NoMemory>
         requires a { IsThm self.old a.0 }
         requires fits { IsTrue (is_some_of (thm self.old a.0).concl) }
         ensures kept { Extends self.old self.new }
+        ensures facts { SameFacts self.old self.new }
         ensures gives { IfOk result (λ th. Gives self.new th.0 (seq (thm self.old a.0).hyps (applied_to (right_of (thm self.old a.0).concl) (chosen (head_ty (thm self.old a.0).concl) (right_of (thm self.old a.0).concl))))) }
         ensures made { Made self.old self.new (Step.Choose a) result }
     {
@@ -117,24 +81,12 @@ impl<'e> Log<'e> {
         requires t { IsGiven self.old.env.sig t.now ty.now }
         requires a { IsThm self.old a.0 }
         ensures kept { Extends self.old self.new }
+        ensures facts { SameFacts self.old self.new }
         ensures gives { IfOk result (λ th. Gives self.new th.0 (seq (image (put_free (one_put n ty.now t.now)) (thm self.old a.0).hyps) (put_free (one_put n ty.now t.now) (thm self.old a.0).concl))) }
         ensures made { Made self.old self.new (Step.Inst n ty.now t.now a) result }
     {
         let value = copy(t)?;
         let kind = copy_ty(ty)?;
         self.make(Step::Inst(n, kind, value, a))
-    }
-
-    /// `inst` with what it is given by value.
-    #[tactic(none)]
-    pub fn inst_own(&mut self, n: u64, ty: Ty, t: Term, a: ThmId) -> Result<ThmId, NoMemory>
-        requires ty { IsTrue (ty_fits self.old.env.sig.types ty) }
-        requires t { IsGiven self.old.env.sig t ty }
-        requires a { IsThm self.old a.0 }
-        ensures kept { Extends self.old self.new }
-        ensures gives { IfOk result (λ th. Gives self.new th.0 (seq (image (put_free (one_put n ty t)) (thm self.old a.0).hyps) (put_free (one_put n ty t) (thm self.old a.0).concl))) }
-        ensures made { Made self.old self.new (Step.Inst n ty t a) result }
-    {
-        self.make(Step::Inst(n, ty, t, a))
     }
 }

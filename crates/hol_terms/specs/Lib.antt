@@ -5,3 +5,4 @@ pub mod Substitution
 pub mod Formulas
 pub mod Laws
 pub mod Envs
+pub mod Weights

@@ -1,20 +1,15 @@
 -- Unions that leave one side as it is.
-use Rattle.std.proofs.Common.{◌≡◌, ℕ, ◌↔◌, IsTrue, nat_eq, length, List, [], ◌∷◌, refl, sym, ◌∙◌, subst, true, inl, inr, rules}
-use Rattle.std.specs.List.{list_all}
+use Rattle.std.proofs.Common.{◌≡◌, ℕ, ◌↔◌, IsTrue, nat_eq, length, List, [], ◌∷◌, refl, sym, ◌∙◌, subst, inl, inr, rules}
 use Rattle.std.specs.FinSet as set
 use Rattle.hol_terms.specs.declared.term.Term.{Term}
 use Rattle.hyp_sets.specs.Sets.{TermSet, set_of, Holds, Among}
-use Rattle.hyp_sets.proofs.Members.{same_members, in_left, in_right, holds_union, none_held, in_first, all_each}
+use Rattle.hyp_sets.proofs.Members.{same_members, in_left, in_right, holds_union, none_held, in_first}
 
 pub union_within : (s t : TermSet) → Among t s → s ≡ set.union s t
 union_within s t within = same_members s (set.union s t) (λ x h. in_left s t x h) (λ x h. elim (holds_union s t x h) [ inl k ↦ k | inr k ↦ within x k ])
 
-pub union_held : (s : TermSet) (ks : List Term) → list_all (set.contains s) ks ≡ true → s ≡ set.union s (set_of ks)
-union_held s ks all = union_within s (set_of ks) (all_each (set.contains s) ks all)
-
-pub union_of_none : (s t : TermSet) → s ≡ set.empty → t ≡ set.union s t
-union_of_none s t none =
-    same_members t (set.union s t) (λ x h. in_right s t x h) (λ x h. elim (holds_union s t x h) [ inl k ↦ absurd (none_held x (subst (λ z. Holds z x) none k)) | inr k ↦ k ])
+pub union_around : (s t : TermSet) → Among s t → t ≡ set.union s t
+union_around s t within = same_members t (set.union s t) (λ x h. in_right s t x h) (λ x h. elim (holds_union s t x h) [ inl k ↦ within x k | inr k ↦ k ])
 
 -- a set is empty exactly where its list has no length
 pub empty_where_no_items : (ks : List Term) (s : TermSet) (n : ℕ) → set_of ks ≡ s → n ≡ length ks → IsTrue (nat_eq n 0) ↔ (s ≡ set.empty)

@@ -90,7 +90,7 @@ module _ (t : Term) where
       ∙ ap (λ b. not (eq_by_cmp term_cmp q t) && b) (sym (set.contains-insert total (set_of ks) k q) ∙ ap (λ z. set.contains z q) (sym (set_of_push ks k)))
       ∙ sym (set.contains-remove total (set_of (ks ++ k ∷ [])) t q))
 
-taken : (xs : List Term) (i : ℕ) (item : Term) → i < length xs → item ≡ get_or xs i item → take i xs ++ item ∷ [] ≡ take (i + 1) xs
+pub taken : (xs : List Term) (i : ℕ) (item : Term) → i < length xs → item ≡ get_or xs i item → take i xs ++ item ∷ [] ≡ take (i + 1) xs
 taken xs i item within is = ap (λ z. take i xs ++ z ∷ []) is ∙ sym (take_more xs i item within)
 
 -- one step of a loop that puts each term of a list into a set

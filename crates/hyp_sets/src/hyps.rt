@@ -1,19 +1,24 @@
-ghost use Rattle.std.specs.Prelude.{◌≡◌, ◌↔◌, ◌<◌, IsTrue, IfOk, OnOk, OnErr, [], ◌∷◌, ◌++◌, map, length};
+ghost use Rattle.std.specs.Prelude.{◌≡◌, ◌↔◌, IsTrue, IfOk, map};
 ghost use Rattle.std.specs.FinSet as set;
 ghost use Rattle.std.specs.List.{list_any, list_all};
 ghost use Rattle.hol_terms.specs.Substitution.{put_free as replaced, one_put};
 ghost use Rattle.hyp_sets.specs.Order.{term_cmp, is_same};
 ghost use Rattle.hyp_sets.specs.Sets.{set_of, only, image, absent, absent_in};
 
-use hol_terms::{Term, Ty, copy, free_in, put_free, same};
+use crate::merging::{ascending, covers, merged};
+use hol_terms::{Term, Ty, copy, free_in, nodes, put_free, same};
 use std::alloc::Global;
 use std::marker::Model;
 use text_kit::{NoMemory, Rows, Shared};
 
 /// A finite set of terms. A copy takes constant time; a set that an operation leaves as it is, is shared.
+///
+/// The terms are listed in ascending order, each once. No clause rests on the order: it lets two sets be united in
+/// one walk.
 #[derive(Debug, Drop)]
 pub struct Hyps {
     terms: Shared<Rows<Term>>,
+    nodes: u64,
 }
 
 impl Model for Hyps {
@@ -49,9 +54,19 @@ impl Hyps {
     fn of(alloc: Global, terms: Rows<Term>) -> Result<Hyps, NoMemory>
         ensures { IfOk result (λ s. s ≡ set_of terms) }
     {
+        let nodes = total(terms.as_slice())?;
         Ok(Hyps {
             terms: Shared::new(alloc, terms)?,
+            nodes,
         })
+    }
+
+    /// The set of a list's terms, which need not ascend.
+    fn sorted(alloc: Global, terms: Rows<Term>) -> Result<Hyps, NoMemory>
+        ensures { IfOk result (λ s. s ≡ set_of terms) }
+    {
+        total(terms.as_slice())?;
+        Hyps::of(alloc, ascending(alloc, terms.as_slice())?)
     }
 
     /// The same set once more, in constant time.
@@ -60,11 +75,17 @@ impl Hyps {
     {
         Ok(Hyps {
             terms: self.terms.again()?,
+            nodes: self.nodes,
         })
     }
 
-    /// Lends the terms in the order in which they came in, none of them twice in a row of additions. It takes
-    /// no memory.
+    /// The nodes that the terms would have in all if they were written out as trees, their types counted. It takes
+    /// no memory. The number guides bounds on work alone, and no clause speaks of it.
+    pub fn nodes(&self) -> u64 {
+        self.nodes
+    }
+
+    /// Lends the terms in ascending order. It takes no memory.
     pub fn terms(&self) -> &Rows<Term>
         ensures { set_of result.now ≡ self.now }
     {
@@ -92,19 +113,6 @@ impl Hyps {
         none_has(n, ty, self.terms().as_slice())
     }
 
-    /// The set with one more term.
-    pub fn with(&self, alloc: Global, t: &Term) -> Result<Hyps, NoMemory>
-        ensures { IfOk result (λ s. s ≡ set.insert self.now t.now) }
-    {
-        if self.holds(t) {
-            self.again()
-        } else {
-            let mut terms = self.terms().copy(alloc)?;
-            terms.push(copy(t)?)?;
-            Hyps::of(alloc, terms)
-        }
-    }
-
     /// The set without one term.
     pub fn without(&self, alloc: Global, t: &Term) -> Result<Hyps, NoMemory>
         ensures { IfOk result (λ s. s ≡ set.remove self.now t.now) }
@@ -120,12 +128,14 @@ impl Hyps {
     pub fn union(&self, alloc: Global, other: &Hyps) -> Result<Hyps, NoMemory>
         ensures { IfOk result (λ s. s ≡ set.union self.now other.now) }
     {
-        if all_held(other.terms().as_slice(), self) {
+        let own = self.terms().as_slice();
+        let others = other.terms().as_slice();
+        if covers(own, others) {
             self.again()
-        } else if self.is_empty() {
+        } else if covers(others, own) {
             other.again()
         } else {
-            Hyps::of(alloc, both(alloc, self.terms(), other.terms().as_slice())?)
+            Hyps::of(alloc, merged(alloc, own, others)?)
         }
     }
 
@@ -136,12 +146,24 @@ impl Hyps {
         if self.lacks(n, ty) {
             self.again()
         } else {
-            Hyps::of(
+            Hyps::sorted(
                 alloc,
                 all_replaced(alloc, self.terms().as_slice(), n, ty, u)?,
             )
         }
     }
+}
+
+/// The nodes that the terms of one set may have in all.
+const MOST_IN_A_SET: u64 = 1 << 28;
+
+/// The nodes of the terms, or want of memory where there are more than a set may have.
+fn total(terms: &[Term]) -> Result<u64, NoMemory> {
+    let mut left = MOST_IN_A_SET;
+    for t in terms {
+        left = left.saturating_sub(nodes(&[], t, left)?);
+    }
+    Ok(MOST_IN_A_SET.saturating_sub(left))
 }
 
 /// Whether two terms are the same, in the words of sets. It takes no memory.
@@ -155,17 +177,6 @@ fn any_tied(t: &Term, terms: &[Term]) -> bool
     ensures { result ≡ list_any (is_same t.now) terms.now }
 {
     terms.iter().any(|h| tied(t, h))
-}
-
-fn all_held(terms: &[Term], s: &Hyps) -> bool
-    ensures { result ≡ list_all (set.contains s.now) terms.now }
-{
-    for t in terms {
-        if !s.holds(t) {
-            return false;
-        }
-    }
-    true
 }
 
 fn none_has(n: u64, ty: &Ty, terms: &[Term]) -> bool
@@ -189,28 +200,6 @@ fn others(alloc: Global, terms: &[Term], t: &Term) -> Result<Rows<Term>, NoMemor
         }
     }
     Ok(rest)
-}
-
-/// The first list and what the second has besides.
-fn both(alloc: Global, first: &Rows<Term>, second: &[Term]) -> Result<Rows<Term>, NoMemory>
-    ensures { IfOk result (λ r. set_of r ≡ set.union (set_of first.now) (set_of second.now)) }
-{
-    let mut all = first.copy(alloc)?;
-    for t in second {
-        put_in(&mut all, t)?;
-    }
-    Ok(all)
-}
-
-/// Appends the term where it isn't there.
-fn put_in(terms: &mut Rows<Term>, t: &Term) -> Result<(), NoMemory>
-    ensures { OnOk result (set_of terms.new ≡ set.insert (set_of terms.old) t.now) }
-{
-    if any_tied(t, terms.as_slice()) {
-        Ok(())
-    } else {
-        terms.push(copy(t)?)
-    }
 }
 
 fn all_replaced(

@@ -2,7 +2,10 @@
 #![tactic(auto)]
 
 mod hyps;
+mod laws;
+mod merging;
 #[cfg(test)]
 mod tests;
 
 pub use hyps::{Hyps, tied};
+pub use laws::is_same_is_equality;

@@ -43,7 +43,7 @@ fn a_variable_is_replaced(rt: HostRuntime) -> Result<(), Fail> {
 fn nothing_is_held_by_the_empty_set(rt: HostRuntime) -> Result<(), Fail> {
     let none = Hyps::none(rt.alloc())?;
     assert!(rt; none.is_empty());
-    let one = none.with(rt.alloc(), &variable())?;
+    let one = none.union(rt.alloc(), &Hyps::one(rt.alloc(), variable())?)?;
     assert!(rt; !one.is_empty());
     Ok(())
 }

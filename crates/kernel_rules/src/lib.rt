@@ -13,13 +13,10 @@ mod shapes;
 mod step;
 
 pub use connectives::{
-    applied_to, apply, choice, conjunction, contracted, disjunction, equation, existential,
-    implication, lambda, lambda_over, negation, universal,
+    apply, conjunction, disjunction, equation, existential, implication, lambda, lambda_over,
+    negation, universal,
 };
-pub use equality::{abs, beta, iff, refl, subst};
-pub use given::is_given;
 pub use made::sequent_of;
-pub use quantifiers::{all_elim, all_intro, choose, ex_intro, inst};
 pub use sequent::Sequent;
 pub use shapes::{
     body, function, head_ty, is_conjunction, is_disjunction, is_equation, is_existential,

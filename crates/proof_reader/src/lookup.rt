@@ -1,12 +1,12 @@
-ghost use Rattle.std.specs.Prelude.{◌≡◌, ◌∷◌, ◌++◌, ◌<◌, ◌≤◌, IsTrue, length, map, codes, IfOk, OnOk};
+ghost use Rattle.std.specs.Prelude.{◌≡◌, ◌∷◌, ◌++◌, ◌<◌, IsTrue, length, map, codes, IfOk, OnOk};
 ghost use Rattle.theory_reader.specs.Names.{distinct};
-ghost use Rattle.theory_reader.specs.Sound.{const_names, fact_names, seen_from};
+ghost use Rattle.theory_reader.specs.Sound.{const_names};
 ghost use Rattle.proof_syntax.specs.Names.{names_of};
 
 use proof_terms::Lookup;
 use std::alloc::Global;
 use text_kit::{Bytes, NoMemory};
-use theory_reader::{Decl, Fact, Goal, Theory};
+use theory_reader::{Decl, Theory};
 use theory_terms::Names;
 
 fn add_types<'t>(names: &mut Names<'t>, types: &'t [Bytes]) -> Result<(), NoMemory>
@@ -25,16 +25,6 @@ fn add_consts<'t>(names: &mut Names<'t>, consts: &'t [Decl]) -> Result<(), NoMem
 {
     for decl in consts {
         names.add(decl.name.as_slice())?;
-    }
-    Ok(())
-}
-
-fn add_facts<'t>(names: &mut Names<'t>, facts: &'t [Fact]) -> Result<(), NoMemory>
-    requires { IsTrue (distinct (names.old ++ fact_names facts.now)) }
-    ensures { OnOk result (names.new ≡ names.old ++ fact_names facts.now) }
-{
-    for fact in facts {
-        names.add(fact.name.as_slice())?;
     }
     Ok(())
 }
@@ -59,26 +49,13 @@ fn named_consts<'t>(alloc: Global, consts: &'t [Decl]) -> Result<Names<'t>, NoMe
     Ok(names)
 }
 
-/// The facts that a goal is proved from: those before it, and then its assumptions.
-fn seen_names<'t>(alloc: Global, facts: &'t [Fact], goal: &'t Goal) -> Result<Names<'t>, NoMemory>
-    requires differ { IsTrue (distinct (fact_names (seen_from facts.now goal.now))) }
-    requires behind { goal.now.before ≤ length facts.now }
-    ensures { IfOk result (λ names. names ≡ fact_names (seen_from facts.now goal.now)) }
-{
-    let mut names = Names::begin(alloc);
-    add_facts(&mut names, &facts[..goal.before as usize])?;
-    add_facts(&mut names, goal.assumes.as_slice())?;
-    Ok(names)
-}
-
 /// The names that a proof of the goal with this number may use.
 pub fn lookup<'t>(alloc: Global, theory: &'t Theory, goal: u32) -> Result<Lookup<'t>, NoMemory>
     requires { goal < length theory.now.goals }
     ensures { IfOk result (λ names. names ≡ names_of theory.now goal) }
 {
-    let stated = theory.goals.at(goal as usize);
     let types = type_names(alloc, theory.types.as_slice())?;
     let consts = named_consts(alloc, theory.consts.as_slice())?;
-    let facts = seen_names(alloc, theory.facts.as_slice(), stated)?;
+    let facts = theory.seen_names(alloc, goal)?;
     Ok(Lookup::new(types, consts, facts))
 }

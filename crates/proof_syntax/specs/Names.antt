@@ -2,7 +2,7 @@
 use Rattle.std.specs.Prelude.{ℕ, List, [], ◌∷◌, slice_get, codes, Option, Some, None, unwrap_or}
 use Rattle.theory_reader.specs.declared.theory.Theory.{Theory}
 use Rattle.theory_reader.specs.Sound.{const_names, fact_names}
-use Rattle.theory_reader.specs.Visible.{visible}
+use Rattle.theory_reader.specs.Seen.{seen}
 
 -- the base types, bool being the first, the constants, and the facts that the goal is proved from, each by its number
 pub record Names : Type 0 where
@@ -12,7 +12,7 @@ pub record Names : Type 0 where
 
 -- the names beside the goal with this number
 abbrev pub names_of : Theory → ℕ → Names
-names_of t goal = record { types = codes "bool" ∷ t.types; consts = const_names t.consts; facts = fact_names (visible t goal) }
+names_of t goal = record { types = codes "bool" ∷ t.types; consts = const_names t.consts; facts = fact_names (seen t goal) }
 
 -- the name of a number; no bytes where there is none
 abbrev pub name_in : List (List ℕ) → ℕ → List ℕ

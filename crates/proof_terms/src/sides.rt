@@ -5,6 +5,10 @@ use std::alloc::Global;
 use std::marker::Model;
 use text_kit::{NoMemory, Rows};
 
+/// The most sides that are open at once, and so the depth of the deepest type: what walks down a type needs the machine's
+/// stack, which holds so many levels and more.
+const MOST: usize = 50_000;
+
 /// A side of an arrow that is open.
 #[derive(Debug, Drop)]
 pub(crate) enum Side {
@@ -43,11 +47,15 @@ impl Sides {
         }
     }
 
-    /// Opens a side within the others.
+    /// Opens a side within the others. Above 50,000 of them the answer is want of memory.
     pub(crate) fn open(&mut self, side: Side) -> Result<(), NoMemory>
         ensures { OnOk result (self.new ≡ side ∷ self.old) }
     {
-        self.outermost_first.push(side)
+        if self.outermost_first.len() < MOST {
+            self.outermost_first.push(side)
+        } else {
+            Err(NoMemory)
+        }
     }
 
     /// Takes the innermost side.

@@ -71,7 +71,8 @@ fn go_on<'a>(
 
 /// Reads the type at the front of a text.
 ///
-/// Types nest without a limit, so their open sides are kept in a list. All tokens of a type stand at the level of its place.
+/// The grammar sets no limit to the nesting of types, so their open sides are kept in a list; a type more than 50,000
+/// deep is answered by want of memory, since what walks down it needs the machine's stack. All tokens of a type stand at the level of its place.
 pub fn read_type<'a>(
     alloc: Global,
     names: &Lookup,

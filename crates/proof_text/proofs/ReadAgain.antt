@@ -15,7 +15,7 @@ use Rattle.theory_reader.specs.declared.statement.Goal.{Goal}
 use Rattle.theory_reader.specs.declared.theory.Theory.{Theory}
 use Rattle.theory_reader.specs.Names.{is_name, distinct}
 use Rattle.theory_reader.specs.Sound.{fact_names, goal_names, const_names, seen_from}
-use Rattle.theory_reader.specs.Visible.{visible, IsEnvOf}
+use Rattle.theory_reader.specs.Seen.{seen, IsEnvOf}
 use Rattle.theory_reader.proofs.Passes.{passes_at, take_passes, both_pass, all_weaker}
 use Rattle.proof_syntax.specs.Names.{names_of, name_in}
 use Rattle.proof_syntax.specs.Forms.{form}
@@ -87,8 +87,8 @@ module _ (t : Theory) (n : ℕ) (g : Goal) (is : slice_get t.goals n ≡ Some g)
   each_const k l = declared_at (const_names t.consts) k words_first.1 differ_first.1 l
 
   -- the facts that the goal is proved from
-  seen : visible t n ≡ seen_from t.facts g
-  seen = ap (λ o. option_map_or (seen_from t.facts) o []) is
+  seen_is : seen t n ≡ seen_from t.facts g
+  seen_is = ap (λ o. option_map_or (seen_from t.facts) o []) is
 
   goal_words : IsTrue (is_name g.name) × IsTrue (list_all is_name (fact_names g.assumes))
   goal_words = both_true (is_name g.name) (list_all is_name (fact_names g.assumes)) (passes_at (λ h. is_name h.name && list_all is_name (fact_names h.assumes)) t.goals n g are_words.1 is)
@@ -102,8 +102,8 @@ module _ (t : Theory) (n : ℕ) (g : Goal) (is : slice_get t.goals n ≡ Some g)
 
   each_fact : (k : ℕ) → k < length (names_of t n).facts → IsDeclared (names_of t n).facts k
   each_fact k l =
-      declared_at (fact_names (visible t n)) k (subst (λ fs. IsTrue (list_all is_name (fact_names fs))) (sym seen) seen_words)
-      (subst (λ fs. IsTrue (distinct (fact_names fs))) (sym seen) (passes_at (λ h. distinct (fact_names (seen_from t.facts h))) t.goals n g differ_last.1 is)) l
+      declared_at (fact_names (seen t n)) k (subst (λ fs. IsTrue (list_all is_name (fact_names fs))) (sym seen_is) seen_words)
+      (subst (λ fs. IsTrue (distinct (fact_names fs))) (sym seen_is) (passes_at (λ h. distinct (fact_names (seen_from t.facts h))) t.goals n g differ_last.1 is)) l
 
   goal_declared : n < length t.goals → IsDeclared (goal_names t.goals) n
   goal_declared l =
@@ -165,7 +165,7 @@ module _ (t : Theory) (n : ℕ) (steps : List Step) where
       let one : 1 + length t.types ≡ length (names_of t n).types = omega arith in
       let types : env.sig.types ≡ length (names_of t n).types = ap (λ s. s.types) is.sig ∙ one in
       let consts : length env.sig.consts ≡ length (names_of t n).consts = ap (λ s. length s.consts) is.sig ∙ length-map t.consts (λ c. c.ty) ∙ sym (length-map t.consts (λ c. c.name)) in
-      let facts : length env.facts ≡ length (names_of t n).facts = ap (λ fs. length fs) is.facts ∙ length-map (visible t n) (λ f. f.formula) ∙ sym (length-map (visible t n) (λ f. f.name)) in
+      let facts : length env.facts ≡ length (names_of t n).facts = ap (λ fs. length fs) is.facts ∙ length-map (seen t n) (λ f. f.formula) ∙ sym (length-map (seen t n) (λ f. f.name)) in
       subst (λ k. IsTrue (list_all (λ s. args_named (length (names_of t n).types) (length (names_of t n).consts) k (form s).args) steps)) facts
       (subst (λ k. IsTrue (list_all (λ s. args_named (length (names_of t n).types) k (length env.facts) (form s).args) steps)) consts
       (subst (λ k. IsTrue (list_all (λ s. args_named k (length env.sig.consts) (length env.facts) (form s).args) steps)) types h))

@@ -1,7 +1,7 @@
 ghost use Rattle.std.specs.Prelude.{◌≡◌, ◌<◌, length, IsTrue, IfOk};
 ghost use Rattle.hol_terms.specs.declared.env.Env.{Env};
 ghost use Rattle.kernel_rules.specs.Derivations.{Checks};
-ghost use Rattle.theory_reader.specs.Visible.{IsEnvOf};
+ghost use Rattle.theory_reader.specs.Seen.{IsEnvOf};
 ghost use Rattle.proof_syntax.specs.Reading.{Reads};
 ghost use Rattle.proof_syntax.specs.Texts.{proof_text, is_shallow};
 ghost use Rattle.proof_text.specs.Fitting.{steps_fit};

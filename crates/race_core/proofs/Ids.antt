@@ -1,12 +1,13 @@
 -- The id of a slot is the place of its launch among the launches.
-use Rattle.std.proofs.Common.{◌≡◌, ℕ, ◌+◌, ◌<◌, ◌≤◌, ◌⊎◌, Bool, true, false, cond, List, [], ◌∷◌, ◌++◌, length, refl, sym, ap, ◌∙◌, arith, eq-eqb, Option, Some, None, inl, inr, zero, suc, add-zero}
+use Rattle.std.proofs.Common.{◌≡◌, ◌≢◌, ℕ, ◌+◌, ◌<◌, ◌≤◌, ◌⊎◌, Bool, true, false, cond, List, [], ◌∷◌, ◌++◌, length, refl, sym, ap, ◌∙◌, arith, eq-eqb, Option, Some, None, inl, inr, zero, suc, add-zero, append-nil}
 use Rattle.std.specs.Prelude.{◌==◌, Contains, IsSome, is_some}
-use Rattle.std.specs.List.{position_from}
+use Rattle.std.specs.List.{position_from, filter_map, cons_option}
 use Rattle.std.proofs.lemmas.Bool.Decides.{eqb_tells}
 use Rattle.std.proofs.lemmas.List.Elements.{filter_map-append}
 use Rattle.race_core.specs.declared.event.Event.{Event}
 use Rattle.race_core.specs.declared.event.Event.TheVariants.{Launch, NoStart, NoRoom, Reap, Settle, Skip, Expire}
 use Rattle.race_core.specs.Histories.{events_of, launched, launched_by, id_of}
+use Rattle.race_core.specs.Ran.{ids_of}
 
 -- the place of a number, counted from n
 abbrev pub place : ℕ → List ℕ → ℕ → Option ℕ
@@ -60,7 +61,7 @@ place-behind n (j ∷ js) ks k e =
           place-there n (js ++ k ∷ ks) j k p.0 ∙ place-behind (n + 1) js ks k (sym (place-there n js j k p.0) ∙ e) ∙ ap Some next)
     ]
 
-none-of : (b : Bool) (e : Event) (l : List Event) → cond b (e ∷ l) l ≡ [] → (b ≡ false) × (l ≡ [])
+pub none-of : (b : Bool) (e : Event) (l : List Event) → cond b (e ∷ l) l ≡ [] → (b ≡ false) × (l ≡ [])
 none-of true e l h = cc
 none-of false e l h = (refl, h)
 
@@ -129,3 +130,28 @@ id-some n (Reap j ∷ es) k h = id-some n es k (launch-later (Reap j) es k refl 
 id-some n (Settle j v ∷ es) k h = id-some n es k (launch-later (Settle j v) es k refl h)
 id-some n (Skip j ∷ es) k h = id-some n es k (launch-later (Skip j) es k refl h)
 id-some n (Expire m ∷ es) k h = id-some n es k (launch-later (Expire m) es k refl h)
+
+-- an event that is no launch changes no id
+pub launched-stays : (es : List Event) (e : Event) → launched_by e ≡ None → launched (es ++ e ∷ []) ≡ launched es
+launched-stays es e none =
+    filter_map-append launched_by es (e ∷ []) ∙ ap (λ o. launched es ++ cons_option o []) none ∙ append-nil (launched es)
+
+pub id-stays : (n : ℕ) (es : List Event) (e : Event) (k : ℕ) → launched_by e ≡ None → id_of n (es ++ e ∷ []) k ≡ id_of n es k
+id-stays n es e k none = ap (λ js. place n js k) (launched-stays es e none)
+
+pub ids-stay : (n : ℕ) (es : List Event) (e : Event) (ks : List ℕ) → launched_by e ≡ None → ids_of n (es ++ e ∷ []) ks ≡ ids_of n es ks
+ids-stay n es e ks none = ap (λ js. filter_map (λ k. place n js k) ks) (launched-stays es e none)
+
+place-apart : (n : ℕ) (js : List ℕ) (j k : ℕ) → j ≢ k → place n (js ++ k ∷ []) j ≡ place n js j
+place-apart n [] j k apart =
+    elim (eqb_tells k j) [
+      | inl p ↦ absurd (apart (sym p.1))
+      | inr p ↦ place-there n [] k j p.0
+    ]
+place-apart n (x ∷ js) j k apart =
+    ap (λ o. cond (x == j) (Some n) o) (place-apart (n + 1) js j k apart)
+
+-- the launch of another slot doesn't change an id
+pub id-apart : (n : ℕ) (es : List Event) (j k : ℕ) → j ≢ k → id_of n (es ++ Launch k ∷ []) j ≡ id_of n es j
+id-apart n es j k apart =
+    ap (λ js. place n js j) (filter_map-append launched_by es (Launch k ∷ [])) ∙ place-apart n (launched es) j k apart

@@ -71,11 +71,11 @@ no-moment es e none =
     filter_map-append moment_of es (e ∷ []) ∙ ap (λ o. expiries es ++ cons_option o []) none ∙ append-nil (expiries es)
 
 -- where a slot that is in this state after a move was before
-moved-elsewhere : (r next : Race) (k j : ℕ) (t s : SlotState) → next.slots ≡ slice_set r.slots k t → j ≢ k → slice_get next.slots j ≡ Some s → slice_get r.slots j ≡ Some s
+pub moved-elsewhere : (r next : Race) (k j : ℕ) (t s : SlotState) → next.slots ≡ slice_set r.slots k t → j ≢ k → slice_get next.slots j ≡ Some s → slice_get r.slots j ≡ Some s
 moved-elsewhere r next k j t s slots apart is =
     sym (get-set-other r.slots k j t apart) ∙ ap (λ l. slice_get l j) (sym slots) ∙ is
 
-moved-here : (r next : Race) (k : ℕ) (t s : SlotState) → k < length r.slots → next.slots ≡ slice_set r.slots k t → slice_get next.slots k ≡ Some s → t ≡ s
+pub moved-here : (r next : Race) (k : ℕ) (t s : SlotState) → k < length r.slots → next.slots ≡ slice_set r.slots k t → slice_get next.slots k ≡ Some s → t ≡ s
 moved-here r next k t s within slots is =
     let now : Some t ≡ Some s = sym (get-set-same r.slots k t within) ∙ ap (λ l. slice_get l k) (sym slots) ∙ is in
     cc

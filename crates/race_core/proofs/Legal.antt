@@ -11,6 +11,7 @@ use Rattle.race_core.specs.Histories.{HasPassed}
 use Rattle.race_core.proofs.Slots.{length-replicate, get-replicate}
 use Rattle.race_core.proofs.Invariant.{IsAfter, waiting}
 use Rattle.race_core.proofs.Moved.{step-keeps}
+use Rattle.race_core.proofs.Carried.{went-on, runs-carry}
 
 begins : (n : ℕ) (until : Option ℕ) → IsAfter n until [] (fresh n until)
 begins n until = record {
@@ -24,26 +25,11 @@ begins n until = record {
   few = omega (arith, sum_by-replicate waiting n Waiting);
 }
 
-went : (o : Option Race) (es : List Event) (s : Race) → option_and_then (λ next. runs next es) o ≡ Some s → (mid : Race) × ((o ≡ Some mid) × (runs mid es ≡ Some s))
-went None es s h = cc
-went (Some mid) es s h = (mid, (refl, h))
-
-runs-keep : (n : ℕ) (until : Option ℕ) (before es : List Event) (r s : Race) → IsAfter n until before r → runs r es ≡ Some s → IsAfter n until (before ++ es) s
-runs-keep n until before [] r s was h =
-    let same : r ≡ s = cc in
-    let P : Race → Type 0 = λ x. IsAfter n until before x in
-    let Q : List Event → Type 0 = λ l. IsAfter n until l s in
-    subst Q (sym (append-nil before)) (subst P same was)
-runs-keep n until before (e ∷ es) r s was h =
-    let m = went (step_of r e) es s h in
-    let Q : List Event → Type 0 = λ l. IsAfter n until l s in
-    subst Q (append_assoc before (e ∷ []) es) (runs-keep n until (before ++ e ∷ []) es m.0 s (step-keeps n until before r m.0 e was m.1.0) m.1.1)
-
 -- every legal history is one of the race that it makes
 pub after-is : (n : ℕ) (until : Option ℕ) (es : List Event) (r : Race) → after n until es ≡ Some r → IsAfter n until es r
-after-is n until es r h = runs-keep n until [] es (fresh n until) r (begins n until) h
+after-is n until es r h = runs-carry (IsAfter n until) (step-keeps n until) [] es (fresh n until) r (begins n until) h
 
-some-is : (o : Option Race) → IsSome o → (r : Race) × (o ≡ Some r)
+pub some-is : (o : Option Race) → IsSome o → (r : Race) × (o ≡ Some r)
 some-is None h = cc
 some-is (Some r) h = (r, refl)
 
@@ -55,7 +41,7 @@ legal-is n until es h =
 parts : (r : Race) (es fs : List Event) (s : Race) → runs r (es ++ fs) ≡ Some s → (mid : Race) × ((runs r es ≡ Some mid) × (runs mid fs ≡ Some s))
 parts r [] fs s h = (r, (refl, h))
 parts r (e ∷ es) fs s h =
-    let m = went (step_of r e) (es ++ fs) s h in
+    let m = went-on (step_of r e) (es ++ fs) s h in
     let p = parts m.0 es fs s m.1.1 in
     (p.0, (ap (option_and_then (λ next. runs next es)) m.1.0 ∙ p.1.0, p.1.1))
 
@@ -63,6 +49,7 @@ parts r (e ∷ es) fs s h =
 pub record StepsAt (n : ℕ) (until : Option ℕ) (es : List Event) (e : Event) : Type 0 where
   pub race : Race
   pub next : Race
+  pub is : after n until es ≡ Some race
   pub before : IsAfter n until es race
   pub step : step_of race e ≡ Some next
 
@@ -70,5 +57,5 @@ pub steps-at : (n : ℕ) (until : Option ℕ) (es rest : List Event) (e : Event)
 steps-at n until es rest e h =
     let all = some-is (after n until (es ++ e ∷ rest)) h in
     let p = parts (fresh n until) es (e ∷ rest) all.0 all.1 in
-    let m = went (step_of p.0 e) rest all.0 p.1.1 in
-    record { race = p.0; next = m.0; before = after-is n until es p.0 p.1.0; step = m.1.0 }
+    let m = went-on (step_of p.0 e) rest all.0 p.1.1 in
+    record { race = p.0; next = m.0; is = p.1.0; before = after-is n until es p.0 p.1.0; step = m.1.0 }

@@ -1,9 +1,13 @@
 pub mod Slots
 pub mod Mapped
 pub mod Runs
+pub mod Carried
 pub mod Stepped
 pub mod Ids
 pub mod Invariant
 pub mod Moved
 pub mod Legal
 pub mod Passages
+pub mod Timed
+pub mod Kills
+pub mod Grown

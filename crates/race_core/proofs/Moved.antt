@@ -167,7 +167,7 @@ waiting-overdue (x ∷ xs) =
     let one : waiting (overdue x) ≡ waiting x = elim x as (λ s. waiting (overdue s) ≡ waiting s) [ Waiting ↦ refl | Running ↦ refl | Overdue ↦ refl | Reaped ↦ refl | ReapedLate ↦ refl | Settled v ↦ refl ] in
     sum_by-cons waiting (overdue x) (map overdue xs) ∙ (let h = waiting-overdue xs in let q : waiting (overdue x) + sum_by waiting (map overdue xs) ≡ waiting x + sum_by waiting xs = cc in q) ∙ sym (sum_by-cons waiting x xs)
 
-was-before : (o : Option SlotState) (t : SlotState) → option_map overdue o ≡ Some t → (s : SlotState) × ((o ≡ Some s) × (overdue s ≡ t))
+pub was-before : (o : Option SlotState) (t : SlotState) → option_map overdue o ≡ Some t → (s : SlotState) × ((o ≡ Some s) × (overdue s ≡ t))
 was-before None t e = cc
 was-before (Some s) t e = (s, (refl, cc))
 

@@ -1,7 +1,7 @@
 -- What a history tells: of each slot, of the winner, of the limit of time, of the ids of the children.
-use Rattle.std.specs.Prelude.{ℕ, ◌≡◌, ◌==◌, ◌⊎◌, Bool, false, List, [], ◌∷◌, ◌++◌, filter, Option, Some, None}
+use Rattle.std.specs.Prelude.{ℕ, ◌≡◌, ◌==◌, ◌⊎◌, Bool, true, false, List, [], ◌∷◌, ◌++◌, filter, Option, Some, None}
 use Rattle.std.specs.Option.{option_or}
-use Rattle.std.specs.List.{filter_map, position_from}
+use Rattle.std.specs.List.{filter_map, list_any, position_from}
 use Rattle.race_core.specs.declared.outcome.Verdict.{Verdict}
 use Rattle.race_core.specs.declared.outcome.Verdict.TheVariants as verdict
 use Rattle.race_core.specs.declared.slot.SlotState.{SlotState}
@@ -64,6 +64,30 @@ moment_of _ = None
 -- the moments at which the limit of time has passed
 abbrev pub expiries : List Event → List ℕ
 expiries es = filter_map moment_of es
+
+-- whether an event is an Expire
+abbrev pub is_expiry : Event → Bool
+is_expiry (Expire m) = true
+is_expiry _ = false
+
+-- whether the limit of time has passed at one of these events
+abbrev pub has_expired : List Event → Bool
+has_expired es = list_any is_expiry es
+
+-- a slot was launched, and whether the limit of time has passed since
+pub record WasLaunched (k : ℕ) (late : Bool) (es : List Event) : Type 0 where
+  pub before : List Event
+  pub since : List Event
+  pub is : es ≡ before ++ Launch k ∷ since
+  pub late_is : has_expired since ≡ late
+
+-- a slot was launched and then reaped, and whether the limit of time passed between the two
+pub record WasReaped (k : ℕ) (late : Bool) (es : List Event) : Type 0 where
+  pub before : List Event
+  pub between : List Event
+  pub behind : List Event
+  pub is : es ≡ (before ++ Launch k ∷ between) ++ Reap k ∷ behind
+  pub late_is : has_expired between ≡ late
 
 -- the slot that an event launches
 abbrev pub launched_by : Event → Option ℕ

@@ -1,10 +1,10 @@
-ghost use Rattle.std.specs.Prelude.{◌≡◌, ◌+◌, ◌≤◌, ◌<◌, ◌↔◌, ℕ, List, [], ◌∷◌, ◌++◌, Option, Some, None, IsSome, MatchBool, Contains, length, slice_get};
+ghost use Rattle.std.specs.Prelude.{◌≡◌, ◌+◌, ◌≤◌, ◌<◌, ◌↔◌, ℕ, true, false, List, [], ◌∷◌, ◌++◌, Option, Some, None, IsSome, MatchBool, Contains, length, slice_get};
 ghost use Rattle.race_core.specs.declared.race.Race.{Race};
 ghost use Rattle.race_core.specs.declared.outcome.Verdict.{Verdict};
 ghost use Rattle.race_core.specs.declared.slot.SlotState.{SlotState};
 ghost use Rattle.race_core.specs.declared.event.Event.{Event};
 ghost use Rattle.race_core.specs.Steps.{after, IsLegal};
-ghost use Rattle.race_core.specs.Histories.{events_of, HasPassed, PassedOnce, PassesOnce, first_proved, expiries, launched, id_of};
+ghost use Rattle.race_core.specs.Histories.{events_of, HasPassed, PassedOnce, PassesOnce, first_proved, expiries, has_expired, WasLaunched, WasReaped, launched, id_of};
 
 /// What a slot's events are in a legal history: those of its state, so each of its states was passed
 /// once where it is settled, and the events are a beginning of such a way where it isn't.
@@ -37,6 +37,27 @@ pub fn limit_passes_once()
         → (limit : ℕ) × (until ≡ Some limit) × (limit ≤ m) }
     ensures win { (n : ℕ) (until : Option ℕ) (es rest : List Event) (m : ℕ) → IsLegal n until (es ++ Event.Expire m ∷ rest)
         → first_proved es ≡ None }
+{}
+
+/// A slot that ran as the limit of time passed is overdue, and late once it is reaped; no other is.
+pub fn overdue_where_the_limit_passed()
+    ensures running { (n : ℕ) (until : Option ℕ) (es : List Event) (r : Race) → after n until es ≡ Some r
+        → (k : ℕ) → slice_get r.slots k ≡ Some SlotState.Running → WasLaunched k false es }
+    ensures overdue { (n : ℕ) (until : Option ℕ) (es : List Event) (r : Race) → after n until es ≡ Some r
+        → (k : ℕ) → slice_get r.slots k ≡ Some SlotState.Overdue → WasLaunched k true es }
+    ensures reaped { (n : ℕ) (until : Option ℕ) (es : List Event) (r : Race) → after n until es ≡ Some r
+        → (k : ℕ) → slice_get r.slots k ≡ Some SlotState.Reaped → WasReaped k false es }
+    ensures reaped_late { (n : ℕ) (until : Option ℕ) (es : List Event) (r : Race) → after n until es ≡ Some r
+        → (k : ℕ) → slice_get r.slots k ≡ Some SlotState.ReapedLate → WasReaped k true es }
+{}
+
+/// A slot times out only where the limit of time passed between its launch and its reap, or where it is
+/// skipped behind that without a win.
+pub fn timed_out_behind_the_limit()
+    ensures settled { (n : ℕ) (until : Option ℕ) (es rest : List Event) (k : ℕ)
+        → IsLegal n until (es ++ Event.Settle k Verdict.TimedOut ∷ rest) → WasReaped k true es }
+    ensures skipped { (n : ℕ) (until : Option ℕ) (es rest : List Event) (k : ℕ)
+        → IsLegal n until (es ++ Event.Skip k ∷ rest) → first_proved es ≡ None → has_expired es ≡ true }
 {}
 
 /// A slot is cancelled only behind a win.

@@ -11,8 +11,9 @@ mod tests;
 
 pub use event::Event;
 pub use laws::{
-    cancelled_follow_a_win, ids_follow_launches, limit_passes_once, reaped_before_settled,
-    settled_slots_passed_once, slots_pass_in_order, winner_is_first_proved,
+    cancelled_follow_a_win, ids_follow_launches, limit_passes_once, overdue_where_the_limit_passed,
+    reaped_before_settled, settled_slots_passed_once, slots_pass_in_order,
+    timed_out_behind_the_limit, winner_is_first_proved,
 };
 pub use outcome::{Outcome, Verdict};
 pub use race::Race;

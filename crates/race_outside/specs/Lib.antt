@@ -1,3 +1,9 @@
 pub mod Causes
 pub mod Shelves
 pub mod Sinks
+pub mod Pipes
+pub mod Launchers
+pub mod Works
+pub mod Turns
+pub mod Memory
+pub mod inner

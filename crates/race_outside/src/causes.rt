@@ -10,3 +10,12 @@ pub enum FetchFault {
     /// Want of memory for the bytes.
     NoMemory,
 }
+
+/// Why a start was refused.
+#[derive(Clone, Copy, Debug, Drop, PartialEq, Eq)]
+pub enum StartFault {
+    /// The launcher failed.
+    Failed,
+    /// Want of memory.
+    NoMemory,
+}

@@ -3,13 +3,22 @@ ghost use Rattle.std.specs.Prelude.{◌≡◌, Some, true};
 use crate::held::find;
 use crate::memory_shelf::lend_first;
 use crate::{FetchFault, Held, Shelf};
+use std::marker::Model;
 use text_kit::{Bytes, Rows};
 
 /// Files in memory. A fetch of a name that isn't held fails, and nothing else does.
 #[derive(Debug, Drop)]
 pub struct SureShelf {
-    pub files: Rows<Held>,
-    pub faults: u64,
+    files: Rows<Held>,
+    faults: u64,
+}
+
+impl Model for SureShelf {
+    ghost use Rattle.race_outside.specs.Memory.{SureFiles};
+
+    ghost Value = { SureFiles };
+
+    ghost view = { λ s. record { files = s.files; faults = s.faults } };
 }
 
 impl SureShelf {

@@ -2,13 +2,20 @@ use super::*;
 use std::alloc::Global;
 use std::io;
 use std::test::Fail;
-use text_kit::{Bytes, Rows};
+use text_kit::{Bytes, NoMemory, Rows};
 
-fn file(alloc: Global, name: &[u8], bytes: &[u8]) -> Result<Held, text_kit::NoMemory> {
+fn file(alloc: Global, name: &[u8], bytes: &[u8]) -> Result<Held, NoMemory> {
     Ok(Held {
         name: Bytes::from_slice(alloc, name)?,
         bytes: Bytes::from_slice(alloc, bytes)?,
     })
+}
+
+fn numbers(alloc: Global, from: &[u64]) -> Result<Rows<u64>, NoMemory> {
+    match Vec::from_slice(alloc, from) {
+        Ok(items) => Ok(Rows::from_vec(items)),
+        Err(_) => Err(NoMemory),
+    }
 }
 
 #[test]
@@ -17,9 +24,7 @@ fn shelves_give_the_first_file_of_a_name(rt: HostRuntime) -> Result<(), Fail> {
     let mut files = Rows::begin(alloc);
     files.push(file(alloc, b"a", b"one")?)?;
     files.push(file(alloc, b"a", b"two")?)?;
-    let mut fails = Rows::begin(alloc);
-    fails.push(1)?;
-    let mut shelf = MemoryShelf::begin(files, fails);
+    let mut shelf = MemoryShelf::begin(files, numbers(alloc, &[1])?);
     let mut into = Bytes::begin(alloc);
     shelf.fetch("a", 1, &mut into)?;
     assert_eq!(rt; into.as_slice(), b"on".as_slice());
@@ -41,9 +46,7 @@ fn shelves_give_the_first_file_of_a_name(rt: HostRuntime) -> Result<(), Fail> {
 #[test]
 fn sinks_keep_what_they_take(rt: HostRuntime) -> Result<(), Fail> {
     let alloc = rt.alloc();
-    let mut fails = Rows::begin(alloc);
-    fails.push(1)?;
-    let mut sink = MemorySink::begin(alloc, fails);
+    let mut sink = MemorySink::begin(alloc, numbers(alloc, &[1])?);
     sink.put(b"one")?;
     assert_eq!(rt; sink.put(b"two"), Err(Failed));
     sink.put(b"three")?;

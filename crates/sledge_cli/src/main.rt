@@ -6,6 +6,12 @@ use sledge_engine::answer;
 use std::process::ExitCode;
 use std::{env, io};
 
+/// The status where the output failed.
+const OUTPUT_FAILED: u8 = 5;
+
+/// The status where memory ran out.
+const NO_MEMORY: u8 = 6;
+
 /// The words behind the program's name.
 fn words(rt: &HostRuntime) -> io::Result<Vec<String>> {
     let mut words = Vec::new(rt.alloc());
@@ -15,13 +21,30 @@ fn words(rt: &HostRuntime) -> io::Result<Vec<String>> {
     Ok(words)
 }
 
+/// What is said where memory runs out before the words are there.
+fn out_of_memory(rt: &HostRuntime) -> ExitCode {
+    match rt.println("fault: memory") {
+        Ok(()) => ExitCode::from(NO_MEMORY),
+        Err(_) => ExitCode::from(OUTPUT_FAILED),
+    }
+}
+
+fn reply(rt: &HostRuntime, words: &[String]) -> ExitCode {
+    let mut shelf = FileShelf::begin(rt);
+    let mut out = StreamSink::begin(io::writer(rt));
+    ExitCode::from(answer(rt.alloc(), words, &mut shelf, &mut out))
+}
+
 /// Words that can't be read, since they are no text, are in no grammar: they are answered as no words are.
 fn main(rt: HostRuntime) -> ExitCode {
-    let words = match words(&rt) {
-        Ok(words) => words,
-        Err(_) => Vec::new(rt.alloc()),
-    };
-    let mut shelf = FileShelf::begin(&rt);
-    let mut out = StreamSink::begin(io::writer(&rt));
-    ExitCode::from(answer(rt.alloc(), words.as_slice(), &mut shelf, &mut out))
+    match words(&rt) {
+        Ok(words) => reply(&rt, words.as_slice()),
+        Err(e) => {
+            if e.kind() == io::ErrorKind::OutOfMemory {
+                out_of_memory(&rt)
+            } else {
+                reply(&rt, &[])
+            }
+        }
+    }
 }

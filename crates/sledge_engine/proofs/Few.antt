@@ -12,7 +12,7 @@ use Rattle.theory_reader.specs.declared.statement.Fact.{Fact}
 use Rattle.theory_reader.specs.declared.statement.Goal.{Goal}
 use Rattle.theory_reader.specs.declared.theory.Theory.{Theory}
 use Rattle.theory_reader.specs.Sound.{seen_from}
-use Rattle.theory_reader.specs.Visible.{visible}
+use Rattle.theory_reader.specs.Seen.{seen as facts_seen}
 use Rattle.sledge_engine.specs.Choice.{seen}
 
 passes : {X : Type 0} (p : X → Bool) (xs : List X) (n : ℕ) (x : X) → IsTrue (list_all p xs) → slice_get xs n ≡ Some x → IsTrue (p x)
@@ -38,5 +38,5 @@ few_seen t goal =
     let both = both_true facts assumed t.limits_hold in
     let all = seen_of t.facts (slice_get t.goals goal) (within (length t.facts) 20000 both.0)
     (λ g is. within (length g.assumes) 64 (passes (λ h. nat_le (length h.assumes) 64) t.goals goal g both.1 is)) in
-    let same = length-map (visible t goal) (λ f. f.name) in
+    let same = length-map (facts_seen t goal) (λ f. f.name) in
     omega (arith, all, same)

@@ -1,6 +1,6 @@
 -- What the code of a command holds on to, and what that stands for.
 use Rattle.std.specs.Prelude.{ℕ, ◌≡◌, ◌<◌, List, length, map, string_bytes}
-use Rattle.theory_reader.specs.Visible.{IsEnvOf}
+use Rattle.theory_reader.specs.Seen.{IsEnvOf}
 use Rattle.sledge_engine.specs.declared.metis.Asked.{Asked}
 use Rattle.ground_metis.specs.declared.proving.Outcome.{Outcome}
 use Rattle.ground_metis.specs.Derived.{IsOutcome}

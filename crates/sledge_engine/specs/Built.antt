@@ -4,7 +4,7 @@ use Rattle.std.specs.List.{position}
 use Rattle.hol_terms.specs.declared.term.Term.{Term}
 use Rattle.theory_reader.specs.declared.theory.Theory.{Theory}
 use Rattle.theory_reader.specs.declared.statement.Goal.{Goal}
-use Rattle.theory_reader.specs.Visible.{visible}
+use Rattle.theory_reader.specs.Seen.{seen as facts_seen}
 use Rattle.ground_metis.specs.Formulas.{is_clause}
 use Rattle.sledge_engine.specs.Choice.{seen}
 
@@ -14,7 +14,7 @@ first_other formulas = position (λ t. not (is_clause t)) formulas
 
 -- the formulas of the facts that a goal may be proved from
 abbrev pub formulas : Theory → ℕ → List Term
-formulas t goal = map (λ f. f.formula) (visible t goal)
+formulas t goal = map (λ f. f.formula) (facts_seen t goal)
 
 -- the first fact that is no clause, else the goal where it is none
 pub data IsUnbuilt (t : Theory) (goal : ℕ) : List ℕ → Type 0 where

@@ -3,7 +3,7 @@ use Rattle.std.specs.Prelude.{ℕ, ◌≡◌, ◌+◌, Bool, false, IsTrue, if�
 use Rattle.std.specs.List.{list_any, position}
 use Rattle.std.specs.Str.{bytes_eq}
 use Rattle.theory_reader.specs.declared.theory.Theory.{Theory}
-use Rattle.theory_reader.specs.Visible.{visible}
+use Rattle.theory_reader.specs.Seen.{seen as facts_seen}
 
 -- the name is one of these
 abbrev pub is_named : List (List ℕ) → List ℕ → Bool
@@ -16,7 +16,7 @@ places_from i names (f ∷ fs) = if is_named names f then i ∷ places_from (i +
 
 -- the names of the facts that a goal is proved from: those before it, and then its assumptions
 abbrev pub seen : Theory → ℕ → List (List ℕ)
-seen t goal = map (λ f. f.name) (visible t goal)
+seen t goal = map (λ f. f.name) (facts_seen t goal)
 
 -- the numbers of the named ones, ascending
 abbrev pub chosen : List (List ℕ) → Theory → ℕ → List ℕ

@@ -3,7 +3,7 @@ use Rattle.std.specs.Prelude.{ℕ, ◌≡◌, ◌<◌, ◌≤◌, Bool, List, []
 use Rattle.race_outside.specs.Shelves.{Files, Fetched}
 use Rattle.theory_terms.specs.declared.fault.TheoryKind.{TheoryKind}
 use Rattle.theory_reader.specs.Reading.{Reads, Faulty}
-use Rattle.theory_reader.specs.Visible.{declarations}
+use Rattle.theory_reader.specs.Seen.{declarations}
 use Rattle.sledge_engine.specs.declared.fetching.Fetch.{Fetch}
 use Rattle.sledge_engine.specs.declared.fetching.Fetch.TheVariants.{Whole, TooLong, Failed}
 use Rattle.sledge_engine.specs.declared.opening.Opened.{Opened}

@@ -5,7 +5,7 @@ use Rattle.race_outside.specs.Shelves.{Files, Fetched, Lacks}
 use Rattle.theory_terms.specs.declared.fault.TheoryKind.{TheoryKind}
 use Rattle.theory_reader.specs.declared.theory.Theory.{Theory}
 use Rattle.theory_reader.specs.Reading.{Reads, Faulty}
-use Rattle.theory_reader.specs.Visible.{declarations}
+use Rattle.theory_reader.specs.Seen.{declarations}
 use Rattle.sledge_engine.specs.Texts.{file_text, long_file_text, theory_text}
 
 -- a theory file holds at most 16 MiB, a proof file 64 MiB

@@ -3,7 +3,7 @@ use Rattle.std.specs.Prelude.{ℕ, List}
 use Rattle.hol_terms.specs.declared.env.Env.{Env}
 use Rattle.kernel_rules.specs.declared.step.Step.{Step}
 use Rattle.theory_reader.specs.declared.theory.Theory.{Theory}
-use Rattle.theory_reader.specs.Visible.{IsEnvOf}
+use Rattle.theory_reader.specs.Seen.{IsEnvOf}
 use Rattle.ground_metis.specs.Derived.{IsProof}
 
 -- some steps prove the goal in the kernel, from no facts but these

@@ -9,7 +9,7 @@ use Rattle.hol_kernel.specs.Checking.{IsFirstRefused}
 use Rattle.theory_gen.specs.Generated.{generated}
 use Rattle.theory_reader.specs.declared.theory.Theory.{Theory}
 use Rattle.theory_reader.specs.Sound.{goal_names}
-use Rattle.theory_reader.specs.Visible.{IsEnvOf}
+use Rattle.theory_reader.specs.Seen.{IsEnvOf}
 use Rattle.proof_syntax.specs.declared.file.ProofFile.{ProofFile}
 use Rattle.proof_syntax.specs.Names.{name_in}
 use Rattle.proof_syntax.specs.Reading.{Reads, Faulty}

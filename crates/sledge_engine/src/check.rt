@@ -1,7 +1,7 @@
 ghost use Rattle.std.specs.Prelude.{◌≡◌, ◌<◌, ◌++◌, [], length, decimal, codes, IfOk};
 ghost use Rattle.kernel_rules.specs.Derivations.{Proves};
 ghost use Rattle.theory_reader.specs.Sound.{goal_names};
-ghost use Rattle.theory_reader.specs.Visible.{IsEnvOf};
+ghost use Rattle.theory_reader.specs.Seen.{IsEnvOf};
 ghost use Rattle.proof_syntax.specs.Names.{name_in};
 ghost use Rattle.hol_kernel.specs.Checking.{IsLogOf};
 ghost use Rattle.sledge_engine.specs.Replies.{ProofReply, StepsReply};

@@ -1,5 +1,5 @@
 ghost use Rattle.std.specs.Prelude.{◌≡◌, ◌<◌, ◌^◌, ◌++◌, [], length, IfOk, OnOk, IsTrue, None, map, string_bytes, slice_get, Some};
-ghost use Rattle.theory_reader.specs.Visible.{IsEnvOf};
+ghost use Rattle.theory_reader.specs.Seen.{IsEnvOf};
 ghost use Rattle.ground_metis.specs.Formulas.{is_clause as is_one};
 ghost use Rattle.sledge_engine.specs.Asked.{IsAsked, IsFound, said};
 ghost use Rattle.sledge_engine.specs.Built.{first_other as first_no_clause, IsBuilt};

@@ -7,7 +7,7 @@ use Rattle.theory_terms.specs.declared.fault.TheoryFault.TheVariants as fault
 use Rattle.theory_terms.specs.Answers.{Answer, Good, Bad}
 use Rattle.theory_reader.specs.declared.theory.Theory.{Theory}
 use Rattle.theory_reader.specs.Declarations.{Declarations}
-use Rattle.theory_reader.specs.Visible.{declarations}
+use Rattle.theory_reader.specs.Seen.{declarations}
 use Rattle.theory_reader.specs.Declaring.{theory_of}
 use Rattle.theory_reader.specs.Reading.{ReadsItems, IsAnswer, IsReadAs, Tells, OneAnswer}
 use Rattle.theory_reader.specs.Reading as faulty

@@ -10,3 +10,4 @@ pub mod Named
 pub mod Kept
 pub mod Sound
 pub mod Answered
+pub mod SeenNames

@@ -1,7 +1,7 @@
 pub mod Names
 pub mod Sound
 pub mod Declarations
-pub mod Visible
+pub mod Seen
 pub mod Toks
 pub mod Declaring
 pub mod Reading

@@ -11,7 +11,7 @@ use Rattle.theory_terms.specs.declared.fault.TheoryFault.TheVariants as fault
 use Rattle.theory_terms.specs.Answers.{Answer, Good, Bad, Refused}
 use Rattle.theory_reader.specs.declared.theory.Theory.{Theory}
 use Rattle.theory_reader.specs.Declarations.{Declarations}
-use Rattle.theory_reader.specs.Visible.{declarations}
+use Rattle.theory_reader.specs.Seen.{declarations}
 use Rattle.theory_reader.specs.Toks.{toks_of, byte_at}
 use Rattle.theory_reader.specs.Declaring.{theory_of}
 

@@ -55,24 +55,25 @@ pub(crate) fn push_fact<'t>(
 fn push_assumption<'t>(
     alloc: Global,
     text: &'t [u8],
-    parts: &Parts,
+    parts: &mut Parts,
     goal: &[u8],
     names: &mut Names<'t>,
     assumes: &mut Rows<Fact>,
     hyp: &Hyp,
 ) -> Result<(), TheoryFault>
-    requires agrees { Agrees parts.now }
+    requires agrees { Agrees parts.old }
     requires names { names.old ≡ fact_names assumes.old }
-    ensures { Assumes (assumption text.now (so_far parts.now) goal.now assumes.old hyp.now) names.new assumes.new result }
+    ensures assumes { Assumes (assumption text.now (so_far parts.old) goal.now assumes.old hyp.now) names.new assumes.new result }
+    ensures parts { parts.new ≡ parts.old }
 {
     let name = word_at(text, hyp.name);
-    if is_taken(parts, name) || name == goal || names.place(name).is_some() {
+    if is_taken(&*parts, name) || name == goal || names.place(name).is_some() {
         return Err(fault_at(hyp.name, TheoryKind::Repeated));
     }
     if assumes.len() >= MAX_ASSUMES {
         return Err(fault_at(hyp.name, TheoryKind::TooMany));
     }
-    match read_sentence(alloc, text, &parts.known, &hyp.tree) {
+    match read_sentence(alloc, text, &mut parts.known, &hyp.tree) {
         Err(e) => Err(e),
         Ok(formula) => match push_fact(alloc, names, assumes, name, formula) {
             Ok(()) => Ok(()),
@@ -85,17 +86,26 @@ fn push_assumption<'t>(
 pub(crate) fn assumed(
     alloc: Global,
     text: &[u8],
-    parts: &Parts,
+    parts: &mut Parts,
     goal: &[u8],
     hyps: &[Hyp],
 ) -> Result<Rows<Fact>, TheoryFault>
-    requires { Agrees parts.now }
-    ensures { Tells (assumptions text.now (so_far parts.now) goal.now [] hyps.now) result }
+    requires { Agrees parts.old }
+    ensures assumes { Tells (assumptions text.now (so_far parts.old) goal.now [] hyps.now) result }
+    ensures parts { parts.new ≡ parts.old }
 {
     let mut names = Names::begin(alloc);
     let mut assumes = Rows::begin(alloc);
     for hyp in hyps {
-        match push_assumption(alloc, text, parts, goal, &mut names, &mut assumes, hyp) {
+        match push_assumption(
+            alloc,
+            text,
+            &mut *parts,
+            goal,
+            &mut names,
+            &mut assumes,
+            hyp,
+        ) {
             Ok(()) => {}
             Err(e) => return Err(e),
         }

@@ -45,7 +45,7 @@ fn const_item<'t>(
     }
     match read_type(alloc, text, &parts.known, tree) {
         Err(e) => Err(e),
-        Ok(ty) => match parts.known.add_const(alloc, name, ty) {
+        Ok(ty) => match parts.known.add_const(alloc, name, &ty) {
             Ok(()) => Ok(()),
             Err(_) => Err(TheoryFault::NoMemory),
         },
@@ -69,7 +69,7 @@ fn fact_item<'t>(
     if parts.facts.len() >= MAX_FACTS {
         return Err(fault_at(word, TheoryKind::TooMany));
     }
-    match read_sentence(alloc, text, &parts.known, tree) {
+    match read_sentence(alloc, text, &mut parts.known, tree) {
         Err(e) => Err(e),
         Ok(formula) => match push_fact(
             alloc,
@@ -123,9 +123,9 @@ fn goal_item<'t>(
     if is_taken(&*parts, name) {
         return Err(fault_at(word, TheoryKind::Repeated));
     }
-    match read_sentence(alloc, text, &parts.known, tree) {
+    match read_sentence(alloc, text, &mut parts.known, tree) {
         Err(e) => Err(e),
-        Ok(formula) => match assumed(alloc, text, &*parts, name, hyps) {
+        Ok(formula) => match assumed(alloc, text, &mut *parts, name, hyps) {
             Err(e) => Err(e),
             Ok(assumes) => {
                 let before = parts.fact_names.len();

@@ -1,7 +1,7 @@
 ghost use Rattle.std.specs.Prelude.{◌≡◌, ◌<◌, ◌≤◌, ◌^◌, ◌+◌, ◌++◌, length, map, IfOk, OnOk};
 ghost use Rattle.theory_terms.specs.Signature.{sig_of};
 ghost use Rattle.theory_reader.specs.Sound.{seen_from};
-ghost use Rattle.theory_reader.specs.Visible.{IsEnvOf};
+ghost use Rattle.theory_reader.specs.Seen.{IsEnvOf};
 
 use crate::{Fact, Goal, Theory};
 use hol_terms::{Env, Sig, Term, Ty, copy, copy_ty};

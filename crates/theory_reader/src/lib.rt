@@ -8,6 +8,7 @@ mod items;
 mod lookup;
 mod parts;
 mod reader;
+mod seen;
 mod statement;
 #[cfg(test)]
 mod tests;

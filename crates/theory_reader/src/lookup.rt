@@ -2,7 +2,7 @@ ghost use Rattle.std.specs.Prelude.{◌≡◌, ◌≤◌, take, length};
 ghost use Rattle.std.specs.List.{position};
 ghost use Rattle.std.specs.Str.{bytes_eq};
 ghost use Rattle.theory_reader.specs.Sound.{seen_from};
-ghost use Rattle.theory_reader.specs.Visible.{visible};
+ghost use Rattle.theory_reader.specs.Seen.{seen};
 
 use crate::{Fact, Goal, Theory};
 
@@ -64,7 +64,7 @@ impl Theory {
     /// The place of the fact of this name among those that the goal with this number is proved from: the facts before
     /// it, and then its assumptions. It takes no memory.
     pub fn visible_named(&self, goal: u32, name: &[u8]) -> Option<u32>
-        ensures { result ≡ position (λ f. bytes_eq name.now f.name) (visible self.now goal) }
+        ensures { result ≡ position (λ f. bytes_eq name.now f.name) (seen self.now goal) }
     {
         match self.goals.get(goal as usize) {
             None => None,

@@ -2,7 +2,7 @@ ghost use Rattle.std.specs.Prelude.{◌≡◌, ◌<◌, ◌^◌, length, IfOk};
 ghost use Rattle.theory_terms.specs.Answers.{Answer};
 ghost use Rattle.theory_reader.specs.Declarations.{Declarations};
 ghost use Rattle.theory_reader.specs.Declaring.{nothing, theory_of};
-ghost use Rattle.theory_reader.specs.Visible.{declarations};
+ghost use Rattle.theory_reader.specs.Seen.{declarations};
 ghost use Rattle.theory_reader.specs.Reading.{ReadsItems, IsReadAs, IsAnswer, Tells, SomeAnswer, OneAnswer};
 ghost use Rattle.theory_reader.specs.Stages.{so_far, Agrees, IsSound};
 

@@ -1,4 +1,7 @@
 pub mod Places
+pub mod KeyPlaces
+pub mod Tables
+pub mod Kept
 pub mod Equations
 pub mod Arguments
 pub mod TreeCases

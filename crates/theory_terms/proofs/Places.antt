@@ -1,15 +1,13 @@
 -- Places of names in lists.
-use Rattle.std.proofs.Common.{◌≡◌, ℕ, suc, ◌+◌, Bool, true, false, cond, nat_lt, List, [], ◌∷◌, ◌++◌, map, length, refl, sym, ap, ◌∙◌, arith, add-one, subst, ◌<◌, get_or}
+use Rattle.std.proofs.Common.{◌≡◌, ℕ, suc, ◌+◌, Bool, true, false, cond, nat_lt, List, [], ◌∷◌, map, length, refl, sym, ap, ◌∙◌, arith, add-one, subst, ◌<◌, get_or}
 use Rattle.std.specs.Prelude.{not, Option, Some, None, is_some, position, slice_get, if◌then◌else◌}
 use Rattle.std.specs.List.{prefix_len, list_any, position_or_len}
 use Rattle.std.specs.Option.{option_map}
 use Rattle.std.specs.Str.{bytes_eq}
 use Rattle.std.proofs.lemmas.Bool.Decides.{nat_tests}
 use Rattle.std.proofs.lemmas.Grind.{common_steps}
-use Rattle.std.proofs.lemmas.List.{length-map, map-append}
+use Rattle.std.proofs.lemmas.List.{length-map}
 use Rattle.std.proofs.lemmas.Option.{slice_get-get_or}
-use Rattle.std.specs.Borrow.{Bor}
-use Rattle.indexmap.specs.IndexSet.{insert_key}
 use Rattle.hol_terms.specs.Types.{bool_ty}
 use Rattle.std.proofs.lemmas.List.Quantifiers.{position-Some}
 use Rattle.hol_terms.specs.declared.ty.Ty.{Ty}
@@ -123,18 +121,3 @@ module _ (name : List ℕ) where
   place_held ds i h g =
       let d : Decl = record { name = []; ty = bool_ty } in
       let e : Some (get_or ds i d) ≡ None = sym (slice_get-get_or ds i d (place_within ds i h)) ∙ g in cc
-
--- ---- lent names in a set
-
-abbrev same_name : Bor (List ℕ) → Bor (List ℕ) → Bool
-same_name a b = bytes_eq a.now b.now
-
-appended : (keys new : List (Bor (List ℕ))) (name : Bor (List ℕ)) → list_any (same_name name) keys ≡ false → new ≡ insert_key same_name keys name → new ≡ keys ++ name ∷ []
-appended keys new name none e = e ∙ ap (λ b. if b then keys else keys ++ name ∷ []) none
-
--- a name that isn't there goes last
-pub added : (keys new : List (Bor (List ℕ))) (name : Bor (List ℕ)) → place name.now (map (λ k. k.now) keys) ≡ None → new ≡ insert_key same_name keys name →
-    map (λ k. k.now) new ≡ map (λ k. k.now) keys ++ name.now ∷ []
-added keys new name none e =
-    let any : list_any (same_name name) keys ≡ false = none_any (same_name name) keys (sym (position_map (λ k. k.now) (bytes_eq name.now) keys) ∙ none) in
-    ap (map (λ k. k.now)) (appended keys new name any e) ∙ map-append (λ k. k.now) keys (name ∷ [])

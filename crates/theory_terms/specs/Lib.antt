@@ -6,3 +6,5 @@ pub mod Meanings
 pub mod Laws
 pub mod Scopes
 pub mod Parts
+pub mod Numbers
+pub mod inner

@@ -2,15 +2,19 @@
 #![tactic(auto)]
 
 mod decl;
+mod decls;
 mod fault;
+mod keys;
 mod known;
 mod laws;
 mod making;
 mod names;
+mod numbered;
 mod part;
 mod scope;
 mod term_reader;
 mod type_reader;
+mod type_table;
 mod word;
 
 pub use decl::Decl;

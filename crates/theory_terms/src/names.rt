@@ -1,31 +1,37 @@
 ghost use Rattle.std.specs.Prelude.{◌≡◌, [], ◌∷◌, ◌++◌, ◌<◌, None, length, IfOk, IfSome, OnOk, OnErr};
 ghost use Rattle.theory_terms.specs.Words.{place};
 
-use indexmap::IndexSet;
 use std::alloc::Global;
+use std::collections::BTreeMap;
 use std::marker::Model;
 use text_kit::{Bytes, NoMemory, Rows};
 
 /// The most names that are held.
 const MOST: usize = 0xffff_fffe;
 
-/// Names of a text in the order in which they came, which contracts see as their list. A name is found in constant time.
+/// Names of a text in the order in which they came, which contracts see as their list. A name is found in logarithmic
+/// time, whatever the names are: a tree of them has no bad case.
 #[derive(Drop)]
 pub struct Names<'t> {
-    set: IndexSet<&'t [u8]>,
+    list: Rows<&'t [u8]>,
+    places: BTreeMap<Vec<u8>, u32>,
 }
 
 impl<'t> Model for Names<'t> {
-    ghost use Rattle.std.specs.Prelude.{List, ℕ, map, length, ◌≤◌};
+    ghost use Rattle.std.specs.Prelude.{List, ℕ, map, length, ◌≡◌, ◌≤◌};
+    ghost use Rattle.std.specs.BTreeMap.{get_by};
+    ghost use Rattle.std.specs.Cmp.Lexicographic.{slice_cmp};
+    ghost use Rattle.std.specs.Ordering.{nat_cmp};
+    ghost use Rattle.theory_terms.specs.Words.{place};
     ghost use Rattle.std.specs.Coded.{coded_list, coded_ℕ};
 
     ghost Value = { List (List ℕ) };
 
     ghost coded = { coded_list (coded_list coded_ℕ) };
 
-    ghost view = { λ n. map (λ k. k.now) n.set.keys };
+    ghost view = { λ n. map (λ k. k.now) n.list };
 
-    ghost invariant = { λ n. length n.set.keys ≤ 0xffff_fffe };
+    ghost invariant = { λ n. (length n.list ≤ 0xffff_fffe) × ((name : List ℕ) → get_by (λ k. slice_cmp nat_cmp name k.items) n.places ≡ place name (map (λ k. k.now) n.list)) };
 }
 
 impl<'t> Names<'t> {
@@ -34,7 +40,8 @@ impl<'t> Names<'t> {
         ensures { result ≡ [] }
     {
         Names {
-            set: IndexSet::new(alloc),
+            list: Rows::begin(alloc),
+            places: BTreeMap::new(alloc),
         }
     }
 
@@ -42,7 +49,7 @@ impl<'t> Names<'t> {
     pub fn len(&self) -> u32
         ensures { result ≡ length self.now }
     {
-        self.set.len() as u32
+        self.list.len() as u32
     }
 
     /// The place of a name, where it is there.
@@ -50,10 +57,7 @@ impl<'t> Names<'t> {
         ensures place { result ≡ place name.now self.now }
         ensures small { IfSome result (λ i. i < 0xffff_fffe) }
     {
-        match self.set.get_index_of(name) {
-            None => None,
-            Some(i) => Some(i as u32),
-        }
+        self.places.get(name).copied()
     }
 
     /// Appends a name. A refused call leaves the names as they were.
@@ -62,12 +66,20 @@ impl<'t> Names<'t> {
         ensures ok { OnOk result (self.new ≡ self.old ++ name.now ∷ []) }
         ensures err { OnErr result (self.new ≡ self.old) }
     {
-        if self.set.len() >= MOST {
+        let place = self.list.len();
+        if place >= MOST {
             return Err(NoMemory);
         }
-        match self.set.insert(name) {
+        let Ok(key) = Vec::from_slice(self.list.allocator(), name) else {
+            return Err(NoMemory);
+        };
+        self.list.push(name)?;
+        match self.places.insert(key, place as u32) {
             Ok(_) => Ok(()),
-            Err(_) => Err(NoMemory),
+            Err(_) => {
+                let _ = self.list.pop();
+                Err(NoMemory)
+            }
         }
     }
 
@@ -76,7 +88,7 @@ impl<'t> Names<'t> {
         ensures { IfOk result (λ rows. rows ≡ self.now) }
     {
         let mut rows = Rows::begin(alloc);
-        for name in self.set.as_slice() {
+        for name in self.list.as_slice() {
             rows.push(Bytes::from_slice(alloc, *name)?)?;
         }
         Ok(rows)

@@ -1,20 +1,23 @@
-ghost use Rattle.std.specs.Prelude.{◌≡◌, IfOk};
+ghost use Rattle.std.specs.Prelude.{◌≡◌, List, IfOk, IfSome};
+ghost use Rattle.hol_terms.specs.declared.ty.Ty.{Ty as HolTy};
 ghost use Rattle.theory_terms.specs.Signature.{found, further as one_further};
-ghost use Rattle.theory_terms.specs.Scopes.{variables, lent};
+ghost use Rattle.theory_terms.specs.Numbers.{IsNumbered, AreNumbered};
+ghost use Rattle.theory_terms.specs.Scopes.{variables, numbered_types, lent};
 
-use hol_terms::Ty;
+use crate::numbered::Numbered;
 use text_kit::NoMemory;
 
 /// The bound variables around a part with their types, the innermost first: a chain on the stack, which takes no room
 /// on the heap.
 #[derive(Clone, Copy)]
-pub enum Scope<'a> {
+pub(crate) enum Scope<'a> {
     Outside,
-    Under(&'a [u8], &'a Ty, &'a Scope<'a>),
+    Under(&'a [u8], &'a Numbered, &'a Scope<'a>),
 }
 
-fn further(inner: Option<(u64, &Ty)>) -> Result<Option<(u64, &Ty)>, NoMemory>
-    ensures { IfOk result (λ o. lent o ≡ one_further (lent inner.entry)) }
+fn further(inner: Option<(u64, &Numbered)>) -> Result<Option<(u64, &Numbered)>, NoMemory>
+    ensures found { IfOk result (λ o. lent o ≡ one_further (lent inner.entry)) }
+    ensures numbered { (table : List HolTy) → IfSome inner.entry (λ v. IsNumbered table v.1.now) → IfOk result (λ o. IfSome o (λ v. IsNumbered table v.1.now)) }
 {
     match inner {
         None => Ok(None),
@@ -26,8 +29,12 @@ fn further(inner: Option<(u64, &Ty)>) -> Result<Option<(u64, &Ty)>, NoMemory>
 }
 
 /// The index and the type of the innermost variable of that name.
-pub(crate) fn find<'a>(scope: &Scope<'a>, name: &[u8]) -> Result<Option<(u64, &'a Ty)>, NoMemory>
-    ensures { IfOk result (λ o. lent o ≡ found name.now (variables scope.now)) }
+pub(crate) fn find<'a>(
+    scope: &Scope<'a>,
+    name: &[u8],
+) -> Result<Option<(u64, &'a Numbered)>, NoMemory>
+    ensures found { IfOk result (λ o. lent o ≡ found name.now (variables scope.now)) }
+    ensures numbered { (table : List HolTy) → AreNumbered table (numbered_types scope.now) → IfOk result (λ o. IfSome o (λ v. IsNumbered table v.1.now)) }
 {
     match scope {
         Scope::Outside => Ok(None),

@@ -35,10 +35,10 @@ fn add_const<'t>(
     name: &'t [u8],
     ty: Ty,
 ) -> Result<(), NoMemory> {
-    match known.const_of(name) {
-        Some(_) => Err(NoMemory),
-        None => known.add_const(alloc, name, ty),
+    if known.has_const(name) {
+        return Err(NoMemory);
     }
+    known.add_const(alloc, name, &ty)
 }
 
 // `type n; const c : n; const p : n -> bool;`
@@ -82,7 +82,7 @@ fn is_all_p(t: &Term) -> bool {
     }
 }
 
-fn reads(alloc: Global, known: &Known, x: u64) -> Result<Term, TheoryFault> {
+fn reads(alloc: Global, known: &mut Known, x: u64) -> Result<Term, TheoryFault> {
     let body = apply(alloc, TEST, x)?;
     let tree = bind(alloc, Quant::All, x, body)?;
     read_sentence(alloc, TEXT, known, &tree)
@@ -107,7 +107,7 @@ fn joined(alloc: Global, q: Quant) -> Result<Tree, NoMemory> {
 }
 
 #[tactic(none)]
-fn has_fault(alloc: Global, known: &Known, tree: &Tree, at: u64, kind: TheoryKind) -> bool {
+fn has_fault(alloc: Global, known: &mut Known, tree: &Tree, at: u64, kind: TheoryKind) -> bool {
     match read_sentence(alloc, TEXT, known, tree) {
         Err(
             TheoryFault::At {
@@ -126,10 +126,10 @@ const FAULTS: [(u64, u64, u64, TheoryKind); 3] = [
     (TEST, TEST, 4, TheoryKind::IllTyped),
 ];
 
-fn applications(alloc: Global, known: &Known) -> Result<bool, NoMemory> {
+fn applications(alloc: Global, known: &mut Known) -> Result<bool, NoMemory> {
     for (f, x, at, kind) in &FAULTS {
         let tree = apply(alloc, *f, *x)?;
-        if !has_fault(alloc, known, &tree, *at, *kind) {
+        if !has_fault(alloc, &mut *known, &tree, *at, *kind) {
             return Ok(false);
         }
     }
@@ -138,27 +138,27 @@ fn applications(alloc: Global, known: &Known) -> Result<bool, NoMemory> {
 
 // A lambda may have any body, and is no formula.
 #[tactic(none)]
-fn lambda(alloc: Global, known: &Known) -> Result<bool, NoMemory> {
+fn lambda(alloc: Global, known: &mut Known) -> Result<bool, NoMemory> {
     let tree = bind(alloc, Quant::Lambda, VARIABLE, Tree::Name(word(VARIABLE)))?;
     Ok(has_fault(alloc, known, &tree, 1, TheoryKind::NotBool))
 }
 
 // A chosen value is no formula, so it isn't joined to one.
 #[tactic(none)]
-fn chosen(alloc: Global, known: &Known) -> Result<bool, NoMemory> {
+fn chosen(alloc: Global, known: &mut Known) -> Result<bool, NoMemory> {
     let tree = joined(alloc, Quant::Eps)?;
     Ok(has_fault(alloc, known, &tree, 0, TheoryKind::IllTyped))
 }
 
 #[tactic(none)]
-fn existence(alloc: Global, known: &Known) -> Result<bool, NoMemory> {
+fn existence(alloc: Global, known: &mut Known) -> Result<bool, NoMemory> {
     let tree = joined(alloc, Quant::Ex)?;
     Ok(read_sentence(alloc, TEXT, known, &tree).is_ok())
 }
 
 #[tactic(none)]
-fn same_under_both_names(alloc: Global, known: &Known) -> Result<bool, TheoryFault> {
-    let first = is_all_p(&reads(alloc, known, VARIABLE)?);
+fn same_under_both_names(alloc: Global, known: &mut Known) -> Result<bool, TheoryFault> {
+    let first = is_all_p(&reads(alloc, &mut *known, VARIABLE)?);
     Ok(first && is_all_p(&reads(alloc, known, OTHER)?))
 }
 
@@ -182,18 +182,18 @@ fn one_name(alloc: Global) -> Result<bool, NoMemory> {
 
 #[tactic(none)]
 fn readings(alloc: Global) -> Result<bool, TheoryFault> {
-    let known = declared(alloc, TEXT)?;
+    let mut known = declared(alloc, TEXT)?;
     let types = arrow_reads(alloc, &known)?;
-    let sentences = same_under_both_names(alloc, &known)?;
-    Ok(types && sentences && existence(alloc, &known)?)
+    let sentences = same_under_both_names(alloc, &mut known)?;
+    Ok(types && sentences && existence(alloc, &mut known)?)
 }
 
 #[tactic(none)]
 fn faults(alloc: Global) -> Result<bool, NoMemory> {
-    let known = declared(alloc, TEXT)?;
-    let found = applications(alloc, &known)?;
-    let bound = lambda(alloc, &known)?;
-    Ok(found && bound && chosen(alloc, &known)?)
+    let mut known = declared(alloc, TEXT)?;
+    let found = applications(alloc, &mut known)?;
+    let bound = lambda(alloc, &mut known)?;
+    Ok(found && bound && chosen(alloc, &mut known)?)
 }
 
 #[test]

@@ -1,7 +1,7 @@
 ghost use Rattle.std.specs.Prelude.{◌≡◌, ℕ, List, IfOk};
 ghost use Rattle.theory_print.specs.Lexemes.{laid};
 ghost use Rattle.theory_reader.specs.Declarations.{known};
-ghost use Rattle.theory_reader.specs.Visible.{declarations};
+ghost use Rattle.theory_reader.specs.Seen.{declarations};
 ghost use Rattle.theory_reader.specs.Reading.{Reads};
 ghost use Rattle.theory_text.specs.Printed.{theory_lexemes, FactsWritten, GoalsWritten};
 

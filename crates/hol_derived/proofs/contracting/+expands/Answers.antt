@@ -94,3 +94,18 @@ expanded_own-returns-clause-kept t c =
 pub expanded_own-returns-clause-gives : goal.expanded_own-returns-clause-gives
 expanded_own-returns-clause-gives t c =
     c.expanded-reached.ensures.gives
+
+pub expanded_by-returns-in_err-eq-clause-facts : goal.expanded_by-returns-in_err-eq-clause-facts
+expanded_by-returns-in_err-eq-clause-facts t c = c.contraction.ensures.facts
+
+pub expanded_by-returns-in_err-next-clause-facts : goal.expanded_by-returns-in_err-next-clause-facts
+expanded_by-returns-in_err-next-clause-facts t c = c.contraction.ensures.facts
+
+pub expanded_by-returns-in_err-below-clause-facts : goal.expanded_by-returns-in_err-below-clause-facts
+expanded_by-returns-in_err-below-clause-facts t c = c.expanded_own.ensures.facts ∙ c.contraction.ensures.facts
+
+pub expanded_by-returns-clause-facts : goal.expanded_by-returns-clause-facts
+expanded_by-returns-clause-facts t c = c.turned.ensures.facts ∙ (c.expanded_own.ensures.facts ∙ c.contraction.ensures.facts)
+
+pub expanded_own-returns-clause-facts : goal.expanded_own-returns-clause-facts
+expanded_own-returns-clause-facts t c = c.expanded-reached.ensures.facts

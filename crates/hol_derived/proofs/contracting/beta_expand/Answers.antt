@@ -16,3 +16,6 @@ returns-clause-kept c = c.expanded.ensures.kept
 
 pub returns-clause-gives : goal.returns-clause-gives
 returns-clause-gives c = c.expanded.ensures.gives
+
+pub returns-clause-facts : goal.returns-clause-facts
+returns-clause-facts c = c.expanded.ensures.facts

@@ -23,3 +23,9 @@ returns-else-is_redex-clause-kept c = c.refl.ensures.kept
 
 pub returns-else-is_redex-clause-gives : goal.returns-else-is_redex-clause-gives
 returns-else-is_redex-clause-gives c = gives_as c.refl.result c.refl.new.self _ _ (root_refl c.args.log.now.env.sig c.args.t.now (sym c.is_redex.ensures ∙ c.if-is_redex.false)) c.refl.ensures.gives
+
+pub returns-then-is_redex-clause-facts : goal.returns-then-is_redex-clause-facts
+returns-then-is_redex-clause-facts c = c.beta.ensures.facts
+
+pub returns-else-is_redex-clause-facts : goal.returns-else-is_redex-clause-facts
+returns-else-is_redex-clause-facts c = c.refl.ensures.facts

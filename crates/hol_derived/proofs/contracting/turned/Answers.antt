@@ -1,3 +1,4 @@
+use Rattle.std.proofs.Common.{◌∙◌}
 use Rattle.hol_kernel.specs.Logs.{thm}
 use Rattle.hol_kernel.specs.Conditions.{own_ty}
 use Rattle.hol_kernel.proofs.Growing.{extends_trans, thm_stays}
@@ -61,3 +62,12 @@ returns-clause-gives c =
     gives_as c.replace_along-2.result c.replace_along-2.new.log _ _
     (turned_is c.args.log.now c.refl.new.self c.replace_along.new.log c.args.eq.0 c.args.th.0 c.in_ok-same.same.0 c.in_ok-back.back.0 (own_ty c.args.log.now.env.sig c.args.t.now) c.args.t.now c.refl.ensures.kept
     c.replace_along.ensures.kept c.requires.eq c.requires.th c.requires.is c.in_ok-same.ensures.gives c.in_ok-back.ensures.gives) c.replace_along-2.ensures.gives
+
+pub returns-in_err-same-clause-facts : goal.returns-in_err-same-clause-facts
+returns-in_err-same-clause-facts c = c.refl.ensures.facts
+
+pub returns-in_err-back-clause-facts : goal.returns-in_err-back-clause-facts
+returns-in_err-back-clause-facts c = c.replace_along.ensures.facts ∙ c.refl.ensures.facts
+
+pub returns-clause-facts : goal.returns-clause-facts
+returns-clause-facts c = (c.replace_along-2.ensures.facts ∙ c.replace_along.ensures.facts) ∙ c.refl.ensures.facts

@@ -1,4 +1,4 @@
-use Rattle.std.proofs.Common.{sym, ◌∙◌, subst}
+use Rattle.std.proofs.Common.{refl, sym, ◌∙◌, subst}
 use Rattle.hol_terms.specs.Formulas.{IsFormula}
 use Rattle.hol_kernel.proofs.Growing.{extends_refl, extends_trans, thm_stays}
 use Rattle.hol_kernel.proofs.Making.{err_free}
@@ -45,3 +45,12 @@ returns-clause-gives c =
     gives_as c.imp_elim.result c.imp_elim.new.self _ _
     (cut_is c.args.log.now c.imp_intro_own.new.self c.args.a.0 c.args.c.0 c.in_ok-implied.implied.0 c.in_ok-removed.removed (c.in_ok-removed.ensures ∙ c.conclusion.ensures.value) c.imp_intro_own.ensures.kept c.requires.a
     c.in_ok-implied.ensures.gives) c.imp_elim.ensures.gives
+
+pub returns-in_err-removed-clause-facts : goal.returns-in_err-removed-clause-facts
+returns-in_err-removed-clause-facts c = refl
+
+pub returns-in_err-implied-clause-facts : goal.returns-in_err-implied-clause-facts
+returns-in_err-implied-clause-facts c = c.imp_intro_own.ensures.facts
+
+pub returns-clause-facts : goal.returns-clause-facts
+returns-clause-facts c = c.imp_elim.ensures.facts ∙ c.imp_intro_own.ensures.facts

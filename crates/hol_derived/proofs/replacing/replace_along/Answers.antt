@@ -1,4 +1,4 @@
-use Rattle.std.proofs.Common.{ap}
+use Rattle.std.proofs.Common.{refl, ap}
 use Rattle.std.specs.FinSet as set
 use Rattle.kernel_rules.specs.Rules.{seq}
 use Rattle.hol_kernel.specs.Logs.{thm}
@@ -49,3 +49,9 @@ returns-clause-gives c =
     let t = (thm c.args.log.now c.args.th.0).concl in
     gives_as c.subst_own.result c.subst_own.new.self _ _
     (ap (seq (set.union (thm c.args.log.now c.args.eq.0).hyps (thm c.args.log.now c.args.th.0).hyps)) c.in_ok-property.ensures.after) c.subst_own.ensures.gives
+
+pub returns-in_err-property-clause-facts : goal.returns-in_err-property-clause-facts
+returns-in_err-property-clause-facts c = refl
+
+pub returns-clause-facts : goal.returns-clause-facts
+returns-clause-facts c = c.subst_own.ensures.facts

@@ -28,3 +28,6 @@ returns-clause-gives c =
     let t = (thm c.args.log.now c.args.th.0).concl in
     gives_as c.replace_along.result c.replace_along.new.log _ _
     (ap (seq (set.union (thm c.args.log.now c.args.eq.0).hyps (thm c.args.log.now c.args.th.0).hyps)) (ap (λ p. replaced_at p (right_of e) t) c.as_slice.ensures)) c.replace_along.ensures.gives
+
+pub returns-clause-facts : goal.returns-clause-facts
+returns-clause-facts c = c.replace_along.ensures.facts

@@ -1,3 +1,4 @@
+use Rattle.std.proofs.Common.{◌∙◌}
 use Rattle.hol_kernel.proofs.Growing.{extends_trans, thm_stays}
 use Rattle.hol_kernel.proofs.Making.{err_free}
 use Rattle.hol_derived.proofs.Cuts.{gives_as}
@@ -36,3 +37,9 @@ returns-clause-kept c = extends_trans _ _ _ c.excluded_middle.ensures.kept c.or_
 pub returns-clause-gives : goal.returns-clause-gives
 returns-clause-gives c =
     gives_as c.or_elim.result c.or_elim.new.self _ _ (cases_is c.args.log.now c.excluded_middle.new.log c.in_ok-either.either.0 c.args.yes.0 c.args.no.0 c.args.p.now c.excluded_middle.ensures.kept c.requires.yes c.requires.no c.in_ok-either.ensures.gives) c.or_elim.ensures.gives
+
+pub returns-in_err-either-clause-facts : goal.returns-in_err-either-clause-facts
+returns-in_err-either-clause-facts c = c.excluded_middle.ensures.facts
+
+pub returns-clause-facts : goal.returns-clause-facts
+returns-clause-facts c = c.or_elim.ensures.facts ∙ c.excluded_middle.ensures.facts

@@ -1,3 +1,4 @@
+use Rattle.std.proofs.Common.{refl, ◌∙◌}
 use Rattle.hol_kernel.proofs.Growing.{extends_refl, extends_trans, thm_stays}
 use Rattle.hol_kernel.proofs.Making.{err_free}
 use Rattle.hol_derived.proofs.Cuts.{gives_as}
@@ -47,3 +48,15 @@ returns-clause-kept c = extends_trans _ _ _ (extends_trans _ _ _ c.assume.ensure
 pub returns-clause-gives : goal.returns-clause-gives
 returns-clause-gives c =
     gives_as c.not_elim.result c.not_elim.new.self _ _ (clash_is c.args.log.now c.assume.new.self c.or_left_own.new.self c.args.against.0 c.in_ok-holds.holds.0 c.in_ok-either.either.0 c.args.p.now c.in_ok-other.other c.assume.ensures.kept c.or_left_own.ensures.kept c.requires.against c.in_ok-other.ensures c.in_ok-holds.ensures.gives c.in_ok-either.ensures.gives) c.not_elim.ensures.gives
+
+pub returns-in_err-other-clause-facts : goal.returns-in_err-other-clause-facts
+returns-in_err-other-clause-facts c = refl
+
+pub returns-in_err-holds-clause-facts : goal.returns-in_err-holds-clause-facts
+returns-in_err-holds-clause-facts c = c.assume.ensures.facts
+
+pub returns-in_err-either-clause-facts : goal.returns-in_err-either-clause-facts
+returns-in_err-either-clause-facts c = c.or_left_own.ensures.facts ∙ c.assume.ensures.facts
+
+pub returns-clause-facts : goal.returns-clause-facts
+returns-clause-facts c = c.not_elim.ensures.facts ∙ (c.or_left_own.ensures.facts ∙ c.assume.ensures.facts)

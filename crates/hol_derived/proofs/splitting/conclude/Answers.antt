@@ -1,4 +1,4 @@
-use Rattle.std.proofs.Common.{ap}
+use Rattle.std.proofs.Common.{refl, ap}
 use Rattle.std.specs.FinSet as set
 use Rattle.kernel_rules.specs.Connectives.{neg}
 use Rattle.kernel_rules.specs.Rules.{seq}
@@ -30,3 +30,9 @@ returns-clause-kept c = c.classical_own.ensures.kept
 pub returns-clause-gives : goal.returns-clause-gives
 returns-clause-gives c =
     gives_as c.classical_own.result c.classical_own.new.self _ _ (ap (λ t. seq (set.remove (thm c.args.log.now c.args.refuted.0).hyps (neg t)) t) c.in_ok-whole.ensures) c.classical_own.ensures.gives
+
+pub returns-in_err-whole-clause-facts : goal.returns-in_err-whole-clause-facts
+returns-in_err-whole-clause-facts c = refl
+
+pub returns-clause-facts : goal.returns-clause-facts
+returns-clause-facts c = c.classical_own.ensures.facts

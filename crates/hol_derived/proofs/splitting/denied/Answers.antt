@@ -1,4 +1,4 @@
-use Rattle.std.proofs.Common.{ap}
+use Rattle.std.proofs.Common.{◌∙◌, ap}
 use Rattle.hol_kernel.proofs.Growing.{extends_trans}
 use Rattle.hol_kernel.proofs.Making.{err_free}
 use Rattle.hol_derived.proofs.Cuts.{gives_as}
@@ -47,3 +47,12 @@ returns-clause-kept c = extends_trans _ _ _ (extends_trans _ _ _ c.clash.ensures
 pub returns-clause-gives : goal.returns-clause-gives
 returns-clause-gives c =
     gives_as c.or_right.result c.or_right.new.self _ _ (denied_is c.clash.new.log c.not_intro.new.self c.in_ok-refuted.refuted.0 c.in_ok-absent.absent.0 c.args.p.now _ c.in_ok-refuted.ensures.gives c.in_ok-absent.ensures.gives) c.or_right.ensures.gives
+
+pub returns-in_err-refuted-clause-facts : goal.returns-in_err-refuted-clause-facts
+returns-in_err-refuted-clause-facts c = c.clash.ensures.facts
+
+pub returns-in_err-absent-clause-facts : goal.returns-in_err-absent-clause-facts
+returns-in_err-absent-clause-facts c = c.not_intro.ensures.facts ∙ c.clash.ensures.facts
+
+pub returns-clause-facts : goal.returns-clause-facts
+returns-clause-facts c = c.or_right.ensures.facts ∙ (c.not_intro.ensures.facts ∙ c.clash.ensures.facts)

@@ -1,4 +1,4 @@
-use Rattle.std.proofs.Common.{ap}
+use Rattle.std.proofs.Common.{refl, ap}
 use Rattle.hyp_sets.specs.Sets.{only}
 use Rattle.kernel_rules.specs.Rules.{seq}
 use Rattle.hol_kernel.proofs.Growing.{extends_refl}
@@ -21,3 +21,9 @@ returns-clause-kept c = c.assume_own.ensures.kept
 
 pub returns-clause-gives : goal.returns-clause-gives
 returns-clause-gives c = gives_as c.assume_own.result c.assume_own.new.self _ _ (ap (λ t. seq (only t) t) c.in_ok-against.ensures) c.assume_own.ensures.gives
+
+pub returns-in_err-against-clause-facts : goal.returns-in_err-against-clause-facts
+returns-in_err-against-clause-facts c = refl
+
+pub returns-clause-facts : goal.returns-clause-facts
+returns-clause-facts c = c.assume_own.ensures.facts

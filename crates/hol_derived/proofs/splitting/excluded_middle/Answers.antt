@@ -1,4 +1,4 @@
-use Rattle.std.proofs.Common.{ap}
+use Rattle.std.proofs.Common.{◌∙◌, ap}
 use Rattle.hol_kernel.proofs.Growing.{extends_trans, thm_stays}
 use Rattle.hol_kernel.proofs.Making.{err_free}
 use Rattle.hol_derived.proofs.Cuts.{gives_as}
@@ -62,3 +62,15 @@ returns-clause-kept c =
 pub returns-clause-gives : goal.returns-clause-gives
 returns-clause-gives c =
     gives_as c.conclude.result c.conclude.new.log _ _ (middle_is c.deny.new.log c.denied.new.log c.in_ok-against.against.0 c.in_ok-other.other.0 c.args.p.now c.denied.ensures.kept c.in_ok-against.ensures.gives c.in_ok-other.ensures.gives c.not_elim.new.self c.in_ok-refuted.refuted.0 c.in_ok-refuted.ensures.gives) c.conclude.ensures.gives
+
+pub returns-in_err-against-clause-facts : goal.returns-in_err-against-clause-facts
+returns-in_err-against-clause-facts c = c.deny.ensures.facts
+
+pub returns-in_err-other-clause-facts : goal.returns-in_err-other-clause-facts
+returns-in_err-other-clause-facts c = c.denied.ensures.facts ∙ c.deny.ensures.facts
+
+pub returns-in_err-refuted-clause-facts : goal.returns-in_err-refuted-clause-facts
+returns-in_err-refuted-clause-facts c = c.not_elim.ensures.facts ∙ (c.denied.ensures.facts ∙ c.deny.ensures.facts)
+
+pub returns-clause-facts : goal.returns-clause-facts
+returns-clause-facts c = c.conclude.ensures.facts ∙ (c.not_elim.ensures.facts ∙ (c.denied.ensures.facts ∙ c.deny.ensures.facts))

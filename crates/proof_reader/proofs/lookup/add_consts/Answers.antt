@@ -1,6 +1,6 @@
 use Rattle.std.proofs.Common.{◌∙◌, ap, arith, ◌<◌, length}
 use Rattle.theory_terms.specs.Words.{place}
-use Rattle.proof_reader.proofs.NamePieces as pieces
+use Rattle.theory_reader.proofs.SeenNames as pieces
 use Rattle.proof_reader.proofs.lookup.add_consts.Goals as goal
 
 pub add-requires : goal.add-requires

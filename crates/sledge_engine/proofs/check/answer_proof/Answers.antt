@@ -1,6 +1,6 @@
 use Rattle.std.proofs.Common.{◌≡◌, Err, IfOk, subst}
 use Rattle.hol_terms.specs.declared.env.Env.{Env}
-use Rattle.theory_reader.specs.Visible.{IsEnvOf}
+use Rattle.theory_reader.specs.Seen.{IsEnvOf}
 use Rattle.proof_syntax.specs.Reading.{IsReadAs}
 use Rattle.sledge_engine.specs.Replies.{ProofReply, StepsReply, faulty, steps}
 use Rattle.sledge_engine.specs.Texts.{byte_text}

@@ -2,7 +2,7 @@ use Rattle.std.proofs.Common.{◌≡◌, ℕ, List, sym, subst}
 use Rattle.theory_print.specs.Lexemes.{laid}
 use Rattle.theory_print.specs.Names.{IsFresh}
 use Rattle.theory_reader.specs.Declarations.{known}
-use Rattle.theory_reader.specs.Visible.{declarations}
+use Rattle.theory_reader.specs.Seen.{declarations}
 use Rattle.theory_reader.specs.Reading.{Reads}
 use Rattle.theory_text.specs.Printed.{theory_lexemes, FactsWritten, GoalsWritten}
 use Rattle.theory_text.proofs.ReadAgain.{reads_again, facts_are_written, goals_are_written}

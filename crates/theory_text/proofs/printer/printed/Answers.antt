@@ -1,7 +1,7 @@
 use Rattle.std.proofs.Common.{◌≡◌, subst}
 use Rattle.theory_print.specs.Lexemes.{laid}
 use Rattle.theory_reader.specs.Declarations.{Declarations, known}
-use Rattle.theory_reader.specs.Visible.{declarations}
+use Rattle.theory_reader.specs.Seen.{declarations}
 use Rattle.theory_text.specs.Printed.{theory_lexemes, FactsWritten, GoalsWritten}
 use Rattle.theory_text.proofs.Laying.{whole}
 use Rattle.theory_text.proofs.printer.printed.Goals as goal

@@ -1,3 +1,4 @@
+use Rattle.std.proofs.Common.{refl}
 use Rattle.kernel_rules.specs.declared.step.Step.TheVariants as step
 use Rattle.hol_kernel.proofs.Growing.{extends_refl}
 use Rattle.hol_kernel.proofs.Applying.{beta_made}
@@ -24,3 +25,9 @@ returns-clause-made c = made_at c.args.self.now c.make.new.self c.make.result _ 
 
 pub returns-clause-gives : goal.returns-clause-gives
 returns-clause-gives c = made_gives c.args.self.now c.make.new.self c.make.result _ _ (beta_made c.args.self.now.env c.args.self.now.sequents c.args.t.now c.requires.t c.requires.fits) (made_at c.args.self.now c.make.new.self c.make.result _ _ (λ i. step.Beta (c.in_ok-value.ensures i)) c.make.ensures.made)
+
+pub returns-in_err-value-clause-facts : goal.returns-in_err-value-clause-facts
+returns-in_err-value-clause-facts c = refl
+
+pub returns-clause-facts : goal.returns-clause-facts
+returns-clause-facts c = c.make.ensures.facts refl

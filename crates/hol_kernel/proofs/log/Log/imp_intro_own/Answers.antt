@@ -1,3 +1,4 @@
+use Rattle.std.proofs.Common.{refl}
 use Rattle.hol_kernel.proofs.Applying.{imp_intro_made}
 use Rattle.hol_kernel.proofs.Making.{some_made, made_gives}
 use Rattle.hol_kernel.proofs.log.Log.imp_intro_own.Goals as goal
@@ -13,3 +14,6 @@ returns-clause-made c = c.make.ensures.made
 
 pub returns-clause-gives : goal.returns-clause-gives
 returns-clause-gives c = made_gives c.args.self.now c.make.new.self c.make.result _ _ (imp_intro_made c.args.self.now.env c.args.self.now.sequents c.args.t c.args.a c.requires.t c.requires.a) c.make.ensures.made
+
+pub returns-clause-facts : goal.returns-clause-facts
+returns-clause-facts c = c.make.ensures.facts refl

@@ -1,3 +1,7 @@
+use Rattle.std.proofs.Common.{ap}
+use Rattle.kernel_rules.specs.Derivations.{leaves}
+use Rattle.hol_kernel.specs.Logs.{Logged}
+use Rattle.hol_kernel.proofs.FactSteps.{appends_same_facts}
 use Rattle.hol_kernel.proofs.Making.{not_refused}
 use Rattle.hol_kernel.proofs.log.Log.make.Goals as goal
 
@@ -18,3 +22,9 @@ unreachable-requires c = let h = rw c.in-Err-Refused.field-0-is at c.in-Err-Refu
 
 pub unreachable-unreachable : goal.unreachable-unreachable
 unreachable-unreachable c = c.unreachable.result
+
+pub returns-in-Ok-clause-facts : goal.returns-in-Ok-clause-facts
+returns-in-Ok-clause-facts c none = appends_same_facts _ _ _ _ none c.in-Ok.ensures.gives
+
+pub returns-in-Err-NoMemory-clause-facts : goal.returns-in-Err-NoMemory-clause-facts
+returns-in-Err-NoMemory-clause-facts c none = ap (λ (l : Logged). leaves l.steps) (rw c.in-Err-NoMemory.field-0-is at c.in-Err-NoMemory.ensures.gives)

@@ -10,5 +10,5 @@ returns-then-lacks c = if_ok_is c.again.result _ _ (image_absent c.args.n c.args
 
 pub returns-in_ok-all_replaced : goal.returns-in_ok-all_replaced
 returns-in_ok-all_replaced c =
-    if_ok_is c.of.result _ _
-    (ap set_of (c.in_ok-all_replaced.ensures) ∙ image_set_of (put_free (one_put c.args.n c.args.ty.now c.args.u.now)) c.as_slice.result.now ∙ ap (image (put_free (one_put c.args.n c.args.ty.now c.args.u.now))) (ap set_of c.as_slice.ensures ∙ c.terms.ensures)) c.of.ensures
+    if_ok_is c.sorted.result _ _
+    (ap set_of (c.in_ok-all_replaced.ensures) ∙ image_set_of (put_free (one_put c.args.n c.args.ty.now c.args.u.now)) c.as_slice.result.now ∙ ap (image (put_free (one_put c.args.n c.args.ty.now c.args.u.now))) (ap set_of c.as_slice.ensures ∙ c.terms.ensures)) c.sorted.ensures

@@ -1,13 +1,10 @@
-use Rattle.std.proofs.Common.{◌≡◌, ◌∙◌, sym, ap}
-use Rattle.std.specs.Str.{bytes_eq}
-use Rattle.theory_terms.specs.Words.{place}
-use Rattle.theory_terms.proofs.Places.{position_map}
+use Rattle.std.proofs.Common.{◌≡◌, ◌≤◌, ◌∙◌, map, length, arith}
+use Rattle.std.proofs.lemmas.List.{length-map}
+use Rattle.theory_terms.proofs.KeyPlaces.{place_small}
 use Rattle.theory_terms.proofs.names.Names.place.Goals as goal
 
-pub returns-in-None-clause-place : goal.returns-in-None-clause-place
-returns-in-None-clause-place c =
-    sym c.in-None.is ∙ c.get_index_of.ensures.index ∙ sym (position_map (λ k. k.now) (bytes_eq c.args.name.now) c.self.inside.set.keys) ∙ ap (place c.args.name.now) c.self.view_is
-
-pub returns-in-Some-clause-place : goal.returns-in-Some-clause-place
-returns-in-Some-clause-place c =
-    sym c.in-Some.is ∙ c.get_index_of.ensures.index ∙ sym (position_map (λ k. k.now) (bytes_eq c.args.name.now) c.self.inside.set.keys) ∙ ap (place c.args.name.now) c.self.view_is
+pub returns-clause-small : goal.returns-clause-small
+returns-clause-small c =
+    let names = map (λ k. k.now) c.self.inside.list in
+    let few : length names ≤ 4294967294 = omega (arith, length-map c.self.inside.list (λ k. k.now)) in
+    place_small c.args.name.now names 4294967294 c.copied.result (c.copied.ensures ∙ c.get.ensures.value ∙ c.self.invariant.1 c.args.name.now) few

@@ -1,0 +1,15 @@
+pub mod Keeping
+pub mod High
+pub mod Placing
+pub mod Found
+pub mod Powers
+pub mod Bare
+pub mod Models
+pub mod Chains
+pub mod Measures
+pub mod Givens
+pub mod Views
+pub mod Worths
+pub mod Counting
+pub mod Telling
+pub mod Outside

@@ -1,0 +1,10 @@
+use Rattle.std.proofs.Common.{ℕ, ◌≤◌, ◌^◌, sym, subst, arith}
+use Rattle.model_truth.specs.Sizes.{size}
+use Rattle.fin_model.proofs.Powers.{exponent_below}
+use Rattle.fin_model.proofs.constants.quantifier.Goals as goal
+
+pub counted-count-requires : goal.counted-count-requires
+counted-count-requires c = exponent_below 2 (size c.args.model.now c.args.a.now) 65536 (omega arith) (exponent_below 2 (2 ^ size c.args.model.now c.args.a.now) 65536 (omega arith) c.requires.small)
+
+pub predicates-requires : goal.predicates-requires
+predicates-requires c = subst (λ (z : ℕ). 2 ^ z ≤ 65536) (sym c.counted-count.ensures) (exponent_below 2 (2 ^ size c.args.model.now c.args.a.now) 65536 (omega arith) c.requires.small)

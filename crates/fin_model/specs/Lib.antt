@@ -1,0 +1,5 @@
+pub mod Fitting
+pub mod Limits
+pub mod Given
+pub mod Refutation
+pub mod inner

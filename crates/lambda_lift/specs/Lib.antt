@@ -1,0 +1,13 @@
+pub mod Keys
+pub mod Tables
+pub mod Closing
+pub mod Walks
+pub mod Equations
+pub mod Lifting
+pub mod Contractions
+pub mod Redexes
+pub mod Scopes
+pub mod Marks
+pub mod Views
+pub mod Places
+pub mod Laws

@@ -1,0 +1,5 @@
+pub mod Numbers
+pub mod Sizes
+pub mod Values
+pub mod Truth
+pub mod Laws

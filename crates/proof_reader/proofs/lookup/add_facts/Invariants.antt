@@ -1,6 +1,0 @@
-use Rattle.std.proofs.Common.{◌≡◌, ◌++◌, take}
-use Rattle.theory_reader.specs.Sound.{fact_names}
-use Rattle.proof_reader.proofs.lookup.add_facts.Given as goal
-
-abbrev pub invariant-loop-fact : goal.invariant-loop-fact
-invariant-loop-fact l = l.names ≡ l.fn.names ++ fact_names (take l.fact-index l.facts)

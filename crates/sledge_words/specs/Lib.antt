@@ -1,0 +1,4 @@
+pub mod Options
+pub mod Pieces
+pub mod Lines
+pub mod inner

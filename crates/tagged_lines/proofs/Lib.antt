@@ -1,0 +1,16 @@
+pub mod Items
+pub mod Agreeing
+pub mod Instances
+pub mod Finishing
+pub mod Apart
+pub mod Concluding
+pub mod Alone
+pub mod Beside
+pub mod Resolving
+pub mod Paths
+pub mod Along
+pub mod Paramodulating
+pub mod OwnTypes
+pub mod AreFormulas
+pub mod AgreeingInstances
+pub mod Tags
