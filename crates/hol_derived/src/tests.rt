@@ -203,7 +203,7 @@ fn said<'l>(log: &'l Log, th: ThmId) -> Option<&'l Term> {
 
 /// Whether the theorem says what the wanted one says, and has so many hypotheses.
 #[tactic(none)]
-fn says(log: &Log, th: ThmId, wanted: ThmId, hypotheses: usize) -> bool {
+fn says(log: &Log, th: ThmId, wanted: ThmId, hypotheses: u64) -> bool {
     if th.0 >= log.len() {
         return false;
     }
@@ -213,15 +213,15 @@ fn says(log: &Log, th: ThmId, wanted: ThmId, hypotheses: usize) -> bool {
     }
 }
 
-/// Whether the theorem's first hypothesis is what another says.
+/// Whether what another theorem says is a hypothesis of the theorem.
 #[tactic(none)]
 fn supposes(log: &Log, th: ThmId, other: ThmId) -> bool {
     if th.0 >= log.len() {
         return false;
     }
-    match (log.hypotheses(th).get(0), said(log, other)) {
-        (Some(hypothesis), Some(t)) => same(hypothesis, t),
-        _ => false,
+    match said(log, other) {
+        Some(t) => log.hypotheses(th).holds(t),
+        None => false,
     }
 }
 

@@ -1,8 +1,7 @@
 ghost use Rattle.std.specs.Prelude.{◌≡◌, ◌↔◌, [], length, Some, IsSome, IsTrue};
-ghost use Rattle.std.specs.List.{list_all};
 ghost use Rattle.std.specs.FinSet as set;
 ghost use Rattle.hol_terms.specs.Formulas.{IsFormula, is_formula};
-ghost use Rattle.hyp_sets.specs.Sets.{set_of};
+ghost use Rattle.hyp_sets.specs.Sets.{all_in};
 ghost use Rattle.kernel_rules.specs.Derivations.{derived, leaf, sequent, last_of, Proves};
 ghost use Rattle.kernel_rules.specs.Rules.{seq};
 ghost use Rattle.kernel_rules.specs.Formulas.{AreOver};
@@ -13,6 +12,7 @@ use crate::append::try_append;
 use crate::fault::StepFault;
 use crate::work::{allowed, left_after};
 use hol_terms::{Env, Term, same};
+use hyp_sets::Hyps;
 use kernel_rules::{Sequent, Step, ThmId};
 use std::alloc::Global;
 use std::marker::Model;
@@ -23,9 +23,10 @@ use text_kit::{NoMemory, Rows};
 /// A theorem is a place in the log.
 ///
 /// The log counts the nodes that its rules look at, terms taken as trees and their types counted. A step answers
-/// want of memory where they would come to more than 2^28 and 2^14 for each of the first 2^18 steps, or where a term
+/// want of memory where they would come to more than 2^28 and 2^16 for each of the first 2^16 steps, or where a term
 /// or a type that it is put to is deeper than `hol_terms::DEEPEST`. So parts that a file's steps share many times
-/// over can't keep it at work, and no walk goes deeper than the stack.
+/// over can't keep it at work, and no walk goes deeper than the stack. Where sets of hypotheses are united, the nodes
+/// of the set with fewer terms count, once for each comparison that a term of it may need in the other.
 #[derive(Drop)]
 pub struct Log<'e> {
     env: &'e Env,
@@ -137,12 +138,12 @@ impl<'e> Log<'e> {
 
     /// Lends the hypotheses of a theorem. It takes no memory.
     #[tactic(none)]
-    pub fn hypotheses(&self, a: ThmId) -> &Rows<Term>
+    pub fn hypotheses(&self, a: ThmId) -> &Hyps
         requires { IsThm self.now a.0 }
-        ensures value { set_of result.now ≡ (thm self.now a.0).hyps }
-        ensures formulas { IsTrue (list_all (is_formula self.now.env.sig) result.now) }
+        ensures value { result.now ≡ (thm self.now a.0).hyps }
+        ensures formulas { IsTrue (all_in (is_formula self.now.env.sig) result.now) }
     {
-        self.sequents.at(a.0 as usize).hyps.terms()
+        &self.sequents.at(a.0 as usize).hyps
     }
 
     /// Whether the last theorem is the goal without hypotheses, so that the steps prove it. It takes no memory.

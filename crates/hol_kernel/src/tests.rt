@@ -334,10 +334,6 @@ fn written(alloc: Global, text: &[u8]) -> Result<Rows<Term>, NoMemory> {
     Ok(terms)
 }
 
-fn are_among(terms: &[Term], others: &[Term]) -> bool {
-    terms.iter().all(|t| others.iter().any(|u| same(t, u)))
-}
-
 /// Whether the theorem has the first term as its conclusion and the others, and no more, as its hypotheses.
 fn says(log: &Log, th: ThmId, wanted: &[Term]) -> bool {
     if th.0 >= log.len() {
@@ -348,8 +344,8 @@ fn says(log: &Log, th: ThmId, wanted: &[Term]) -> bool {
         [concl, hyps @ ..] => {
             let held = log.hypotheses(th);
             same(log.conclusion(th), concl)
-                && held.len() == hyps.len()
-                && are_among(hyps, held.as_slice())
+                && held.len() == hyps.len() as u64
+                && hyps.iter().all(|t| held.holds(t))
         }
     }
 }

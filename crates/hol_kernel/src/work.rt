@@ -6,10 +6,10 @@ use text_kit::{NoMemory, Rows};
 const AT_FIRST: u64 = 1 << 28;
 
 /// The nodes by which each step adds to that.
-const EACH_STEP: u64 = 1 << 14;
+const EACH_STEP: u64 = 1 << 16;
 
 /// The number of steps that add.
-const STEPS_THAT_ADD: u64 = 1 << 18;
+const STEPS_THAT_ADD: u64 = 1 << 16;
 
 /// The nodes that a log of so many steps may have looked at.
 pub(crate) fn allowed(steps: u64) -> u64 {
@@ -33,6 +33,58 @@ fn given(sig: &Sig, t: &Term, left: u64) -> Result<u64, NoMemory> {
     paid(left, nodes(sig.consts.as_slice(), t, left)?)
 }
 
+/// How much a set of hypotheses is to look at.
+#[derive(Clone, Copy)]
+struct Heft {
+    terms: u64,
+    nodes: u64,
+}
+
+impl Heft {
+    /// What two sets are together at most.
+    fn with(self, other: Heft) -> Heft {
+        Heft {
+            terms: self.terms.saturating_add(other.terms),
+            nodes: self.nodes.saturating_add(other.nodes),
+        }
+    }
+}
+
+fn weighed(earlier: &Rows<Sequent>, a: &ThmId) -> Heft {
+    match earlier.get(a.0 as usize) {
+        Some(q) => Heft {
+            terms: q.hyps.size(),
+            nodes: q.hyps.nodes(),
+        },
+        None => Heft { terms: 0, nodes: 0 },
+    }
+}
+
+/// The comparisons that a term may need at most to be looked up in a set, and then to cut the set there: twice the
+/// levels of a tree in balance, which are about 2.4 for each binary digit of the number of its terms.
+fn comparisons(within: Heft) -> u64 {
+    let digits = 64u32.saturating_sub(within.terms.leading_zeros());
+    u64::from(digits).saturating_mul(5)
+}
+
+/// The nodes that are looked at while terms of so many nodes are looked up, or put into a set or taken out of it. A
+/// comparison looks at no more nodes than the smaller term has.
+fn looking_up(nodes: u64, within: Heft) -> u64 {
+    nodes.saturating_mul(comparisons(within))
+}
+
+/// The nodes that are looked at while two sets are united: the terms of the set with fewer are looked up and put into
+/// the other.
+fn uniting(a: Heft, b: Heft) -> u64 {
+    if a.terms < b.terms {
+        looking_up(a.nodes, b)
+    } else if b.terms < a.terms {
+        looking_up(b.nodes, a)
+    } else {
+        looking_up(a.nodes.saturating_add(b.nodes), a)
+    }
+}
+
 fn kind(a: &Ty, left: u64) -> Result<u64, NoMemory> {
     paid(left, type_nodes(a, left)?)
 }
@@ -48,14 +100,62 @@ fn concluded(earlier: &Rows<Sequent>, a: &ThmId, left: u64) -> Result<u64, NoMem
 /// What is left once the conclusion and the hypotheses of an earlier theorem were looked at.
 fn looked_at(earlier: &Rows<Sequent>, a: &ThmId, left: u64) -> Result<u64, NoMemory> {
     let rest = concluded(earlier, a, left)?;
-    match earlier.get(a.0 as usize) {
-        Some(q) => paid(rest, q.hyps.nodes()),
-        None => Ok(rest),
-    }
+    paid(rest, weighed(earlier, a).nodes)
 }
 
+/// What is left once a conclusion was looked at, and a formula of so many nodes was taken out of the hypotheses.
+fn taken_out(earlier: &Rows<Sequent>, a: &ThmId, formula: u64, left: u64) -> Result<u64, NoMemory> {
+    let rest = concluded(earlier, a, left)?;
+    paid(rest, looking_up(formula, weighed(earlier, a)))
+}
+
+/// What is left once two conclusions were looked at, and their hypotheses united.
 fn both(earlier: &Rows<Sequent>, a: &ThmId, b: &ThmId, left: u64) -> Result<u64, NoMemory> {
-    looked_at(earlier, b, looked_at(earlier, a, left)?)
+    let rest = concluded(earlier, b, concluded(earlier, a, left)?)?;
+    paid(rest, uniting(weighed(earlier, a), weighed(earlier, b)))
+}
+
+/// What is left once three conclusions were looked at, a side of the first taken out of the hypotheses of each of the
+/// others, and the hypotheses united.
+fn three(
+    earlier: &Rows<Sequent>,
+    ab: &ThmId,
+    l: &ThmId,
+    r: &ThmId,
+    left: u64,
+) -> Result<u64, NoMemory> {
+    let rest = concluded(earlier, ab, left)?;
+    let sides = left.saturating_sub(rest);
+    let first = taken_out(earlier, l, sides, rest)?;
+    let second = taken_out(earlier, r, sides, first)?;
+    let two = weighed(earlier, ab).with(weighed(earlier, l));
+    let united = paid(second, uniting(weighed(earlier, ab), weighed(earlier, l)))?;
+    paid(united, uniting(two, weighed(earlier, r)))
+}
+
+/// What is left once a variable was looked for in a conclusion and its hypotheses, and a term of so many nodes put for
+/// it there: what the terms have then is put in order.
+fn instantiated(
+    earlier: &Rows<Sequent>,
+    a: &ThmId,
+    n: u64,
+    ty: &Ty,
+    term: u64,
+    left: u64,
+) -> Result<u64, NoMemory> {
+    let rest = looked_at(earlier, a, left)?;
+    match earlier.get(a.0 as usize) {
+        Some(q) => {
+            let new = q.hyps.occurrences(n, ty).saturating_mul(term);
+            let own = weighed(earlier, a);
+            if new == 0 {
+                Ok(rest)
+            } else {
+                paid(rest, looking_up(own.nodes.saturating_add(new), own))
+            }
+        }
+        None => Ok(rest),
+    }
 }
 
 /// What is left of the nodes that may be looked at once a step's rule has looked at what it is put to, or want of
@@ -70,7 +170,8 @@ pub(crate) fn left_after(
         Step::Fact(_) | Step::TrueIntro => Ok(left),
         Step::Assume(t) | Step::Refl(t) | Step::Beta(t) => given(sig, t, left),
         Step::ImpIntro(t, a) | Step::NotIntro(t, a) | Step::Classical(t, a) => {
-            looked_at(earlier, a, given(sig, t, left)?)
+            let rest = given(sig, t, left)?;
+            taken_out(earlier, a, left.saturating_sub(rest), rest)
         }
         Step::OrLeft(t, a) | Step::OrRight(t, a) | Step::AllElim(t, a) => {
             concluded(earlier, a, given(sig, t, left)?)
@@ -79,10 +180,14 @@ pub(crate) fn left_after(
         Step::ImpElim(a, b) | Step::AndIntro(a, b) | Step::NotElim(a, b) | Step::Iff(a, b) => {
             both(earlier, a, b, left)
         }
-        Step::OrElim(ab, l, r) => both(earlier, l, r, looked_at(earlier, ab, left)?),
+        Step::OrElim(ab, l, r) => three(earlier, ab, l, r, left),
         Step::AllIntro(_, ty, a) | Step::Abs(_, ty, a) => looked_at(earlier, a, kind(ty, left)?),
         Step::ExIntro(f, t, a) => concluded(earlier, a, given(sig, f, given(sig, t, left)?)?),
         Step::Subst(f, eq, a) => both(earlier, eq, a, given(sig, f, left)?),
-        Step::Inst(_, ty, t, a) => looked_at(earlier, a, given(sig, t, kind(ty, left)?)?),
+        Step::Inst(n, ty, t, a) => {
+            let typed = kind(ty, left)?;
+            let rest = given(sig, t, typed)?;
+            instantiated(earlier, a, *n, ty, typed.saturating_sub(rest), rest)
+        }
     }
 }

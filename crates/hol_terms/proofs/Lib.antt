@@ -10,3 +10,4 @@ pub mod Abstracts
 pub mod Replaces
 pub mod Formulas
 pub mod TypedParts
+pub mod TermOrders

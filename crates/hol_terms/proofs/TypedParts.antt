@@ -1,5 +1,5 @@
 -- The parts of typed terms, and the types that terms have.
-use Rattle.std.proofs.Common.{◌≡◌, ℕ, zero, suc, ◌+◌, ◌<◌, Bool, true, false, ◌&&◌, if◌then◌else◌, IsTrue, nat_lt, ap, subst, refl, sym, ◌∙◌, rules, arith, List, [], ◌∷◌, slice_get, Some, None}
+use Rattle.std.proofs.Common.{◌≡◌, ℕ, zero, suc, ◌<◌, Bool, true, false, if◌then◌else◌, IsTrue, ap, subst, refl, sym, ◌∙◌, rules, List, [], ◌∷◌, slice_get, Some, None}
 use Rattle.std.specs.Prelude.{Option}
 use Rattle.hol_terms.specs.declared.ty.Ty.{Ty, roll-Ty, out-Ty}
 use Rattle.hol_terms.specs.declared.ty.Ty.TheOpen.{Ty-F}

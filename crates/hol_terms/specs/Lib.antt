@@ -6,3 +6,4 @@ pub mod Formulas
 pub mod Laws
 pub mod Envs
 pub mod Weights
+pub mod Order

@@ -1,11 +1,12 @@
 ghost use Rattle.std.specs.Prelude.{◌≡◌, ◌↔◌};
 ghost use Rattle.std.specs.declared.cmp.Ordering.{Ordering};
+ghost use Rattle.hol_terms.specs.Order.{ty_cmp, konst_kind, konst_cmp, kind, term_cmp};
 
 use crate::{Konst, Term, Ty};
 use std::cmp::Ordering;
 
 fn compare_ty(s: &Ty, t: &Ty) -> Ordering
-    ensures { (result ≡ Ordering.Equal) ↔ (s.now ≡ t.now) }
+    ensures { result ≡ ty_cmp s.now t.now }
 {
     match (s, t) {
         (Ty::Base(a), Ty::Base(b)) => a.cmp(b),
@@ -18,7 +19,9 @@ fn compare_ty(s: &Ty, t: &Ty) -> Ordering
     }
 }
 
-fn konst_rank(k: &Konst) -> u8 {
+fn konst_rank(k: &Konst) -> u8
+    ensures { result ≡ konst_kind k.now }
+{
     match k {
         Konst::Named(_) => 0,
         Konst::Aux(_) => 1,
@@ -35,38 +38,23 @@ fn konst_rank(k: &Konst) -> u8 {
     }
 }
 
-/// The order of two ranks that differ.
-fn by_rank(a: u8, b: u8) -> Ordering
-    ensures { (result ≡ Ordering.Equal) → ⊥ }
-{
-    if a < b {
-        Ordering::Less
-    } else {
-        Ordering::Greater
-    }
-}
-
 fn compare_konst(s: &Konst, t: &Konst) -> Ordering
-    ensures { (result ≡ Ordering.Equal) ↔ (s.now ≡ t.now) }
+    ensures { result ≡ konst_cmp s.now t.now }
 {
     match (s, t) {
         (Konst::Named(a), Konst::Named(b)) => a.cmp(b),
         (Konst::Aux(a), Konst::Aux(b)) => a.cmp(b),
-        (Konst::True, Konst::True) => Ordering::Equal,
-        (Konst::False, Konst::False) => Ordering::Equal,
-        (Konst::Not, Konst::Not) => Ordering::Equal,
-        (Konst::And, Konst::And) => Ordering::Equal,
-        (Konst::Or, Konst::Or) => Ordering::Equal,
-        (Konst::Imp, Konst::Imp) => Ordering::Equal,
         (Konst::Eq(a), Konst::Eq(b)) => compare_ty(a, b),
         (Konst::All(a), Konst::All(b)) => compare_ty(a, b),
         (Konst::Ex(a), Konst::Ex(b)) => compare_ty(a, b),
         (Konst::Eps(a), Konst::Eps(b)) => compare_ty(a, b),
-        _ => by_rank(konst_rank(s), konst_rank(t)),
+        _ => konst_rank(s).cmp(&konst_rank(t)),
     }
 }
 
-fn rank(t: &Term) -> u8 {
+fn rank(t: &Term) -> u8
+    ensures { result ≡ kind t.now }
+{
     match t {
         Term::Bound(_) => 0,
         Term::Free(_, _) => 1,
@@ -76,10 +64,9 @@ fn rank(t: &Term) -> u8 {
     }
 }
 
-/// Orders terms: first by kind, then by their parts from left to right, as far as the first that differ. It takes
-/// no memory.
-pub fn compare(s: &Term, t: &Term) -> Ordering
-    ensures { (result ≡ Ordering.Equal) ↔ (s.now ≡ t.now) }
+#[tactic(auto, unfolding(crate::specs::Order::term_cmp))]
+fn ordered(s: &Term, t: &Term) -> Ordering
+    ensures { result ≡ term_cmp s.now t.now }
 {
     match (s, t) {
         (Term::Bound(a), Term::Bound(b)) => a.cmp(b),
@@ -88,14 +75,23 @@ pub fn compare(s: &Term, t: &Term) -> Ordering
             differs => differs,
         },
         (Term::Con(a), Term::Con(b)) => compare_konst(a, b),
-        (Term::App(a, x), Term::App(b, y)) => match compare(a.get(), b.get()) {
-            Ordering::Equal => compare(x.get(), y.get()),
+        (Term::App(a, x), Term::App(b, y)) => match ordered(a.get(), b.get()) {
+            Ordering::Equal => ordered(x.get(), y.get()),
             differs => differs,
         },
         (Term::Lam(x, a), Term::Lam(y, b)) => match compare_ty(x, y) {
-            Ordering::Equal => compare(a.get(), b.get()),
+            Ordering::Equal => ordered(a.get(), b.get()),
             differs => differs,
         },
-        _ => by_rank(rank(s), rank(t)),
+        _ => rank(s).cmp(&rank(t)),
     }
+}
+
+/// Orders terms: first by kind, then by their parts from left to right, as far as the first that differ. It takes
+/// no memory.
+pub fn compare(s: &Term, t: &Term) -> Ordering
+    ensures order { result ≡ term_cmp s.now t.now }
+    ensures same { (result ≡ Ordering.Equal) ↔ (s.now ≡ t.now) }
+{
+    ordered(s, t)
 }

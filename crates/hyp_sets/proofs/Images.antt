@@ -1,5 +1,5 @@
 -- Sets under a map of terms.
-use Rattle.std.proofs.Common.{◌≡◌, ℕ, List, [], ◌∷◌, map, refl, sym, ◌∙◌, ap, subst, Bool, true, false, not, ◌&&◌, ◌==◌, if◌then◌else◌, inl, inr}
+use Rattle.std.proofs.Common.{◌≡◌, ℕ, List, [], ◌∷◌, ◌++◌, map, refl, sym, ◌∙◌, ap, subst, Bool, true, false, not, ◌&&◌, ◌==◌, if◌then◌else◌, inl, inr}
 use Rattle.std.specs.FinSet as set
 use Rattle.hol_terms.specs.declared.ty.Ty.{Ty}
 use Rattle.hol_terms.specs.declared.term.Term.{Term, roll-Term}
@@ -9,8 +9,9 @@ use Rattle.hol_terms.specs.Substitution.{put_free, one_put, occurs}
 use Rattle.hol_terms.proofs.TermCases.{by_cases}
 use Rattle.hol_terms.proofs.Both.{both_false}
 use Rattle.hol_terms.proofs.Equations.{put_free-bound, put_free-free, put_free-con, put_free-app, put_free-lam, occurs-free, occurs-app, occurs-lam}
-use Rattle.hyp_sets.specs.Sets.{TermSet, set_of, Holds, image, absent, absent_in}
-use Rattle.hyp_sets.proofs.Members.{holds_first, in_first, in_rest, none_held, holds_items, in_items, same_members, all_in_each}
+use Rattle.hyp_sets.specs.Sets.{TermSet, set_of, Holds, Among, image, absent, absent_in}
+use Rattle.hyp_sets.proofs.Members.{holds_union, in_left, in_right, holds_only, in_only, holds_first, in_first, in_rest, none_held, holds_items, in_items, same_members, all_in_each}
+use Rattle.hyp_sets.proofs.Joined.{among_front, among_back, holds_append}
 
 module _ (f : Term → Term) where
   pub holds_map : (ks : List Term) (y : Term) → Holds (set_of (map f ks)) y → (x : Term) × (Holds (set_of ks) x × (f x ≡ y))
@@ -38,6 +39,32 @@ module _ (f : Term → Term) where
   image_set_of ks =
       same_members (set_of (map f ks)) (image f (set_of ks)) (λ y h. let from = holds_map ks y h in subst (Holds (image f (set_of ks))) from.1.1 (in_image (set_of ks) from.0 from.1.0))
       (λ y h. let from = holds_image (set_of ks) y h in subst (Holds (set_of (map f ks))) from.1.1 (in_map ks from.0 from.1.0))
+
+  -- the images of a list with a term in its middle
+  image_part : (part whole : TermSet) → Among part whole → Among (image f part) (image f whole)
+  image_part part whole among y m = let from = holds_image part y m in subst (Holds (image f whole)) from.1.1 (in_image whole from.0 (among from.0 from.1.0))
+
+  pub image_in_three : (xs : List Term) (k : Term) (ys : List Term) → set.union (set_of (f k ∷ [])) (set.union (image f (set_of xs)) (image f (set_of ys))) ≡ image f (set_of (xs ++ k ∷ ys))
+  image_in_three xs k ys =
+      same_members (set.union (set_of (f k ∷ [])) (set.union (image f (set_of xs)) (image f (set_of ys)))) (image f (set_of (xs ++ k ∷ ys))) (λ y m.
+      elim (holds_union (set_of (f k ∷ [])) (set.union (image f (set_of xs)) (image f (set_of ys))) y m) [
+        | inl n ↦ subst (Holds (image f (set_of (xs ++ k ∷ ys)))) (sym (holds_only (f k) y n)) (in_image (set_of (xs ++ k ∷ ys)) k (among_back xs (k ∷ ys) k (in_first k ys k refl)))
+        | inr n ↦ elim (holds_union (image f (set_of xs)) (image f (set_of ys)) y n) [
+          | inl o ↦ image_part (set_of xs) (set_of (xs ++ k ∷ ys)) (among_front xs (k ∷ ys)) y o
+          | inr o ↦ image_part (set_of ys) (set_of (xs ++ k ∷ ys)) (λ z p. among_back xs (k ∷ ys) z (in_rest k ys z p)) y o
+        ]
+      ]) (λ y m.
+      let from = holds_image (set_of (xs ++ k ∷ ys)) y m in
+      let one = set_of (f k ∷ []) in
+      let two = set.union (image f (set_of xs)) (image f (set_of ys)) in
+      subst (Holds (set.union one two)) from.1.1
+      (elim (holds_append xs (k ∷ ys) from.0 from.1.0) [
+        | inl n ↦ in_right one two (f from.0) (in_left (image f (set_of xs)) (image f (set_of ys)) (f from.0) (in_image (set_of xs) from.0 n))
+        | inr n ↦ elim (holds_first k ys from.0 n) [
+          | inl e ↦ in_left one two (f from.0) (in_only (f k) (f from.0) (ap f e))
+          | inr o ↦ in_right one two (f from.0) (in_right (image f (set_of xs)) (image f (set_of ys)) (f from.0) (in_image (set_of ys) from.0 o))
+        ]
+      ]))
 
   -- a set whose terms all stay is its own image
   pub image_fixed : (s : TermSet) → ((x : Term) → Holds s x → f x ≡ x) → s ≡ image f s

@@ -1,7 +1,8 @@
 pub mod OrderLaws
-pub mod SetLaws
 pub mod Members
 pub mod Images
-pub mod TwoLists
+pub mod Joined
 pub mod Kept
 pub mod Answered
+pub mod Ascending
+pub mod Forks

@@ -24,7 +24,7 @@ and_parts : (a b : Bool) → IsTrue (not a && b) → (a ≡ false) × IsTrue b
 and_parts true b h = cc
 and_parts false b h = (refl, h)
 
-clash : (b : Bool) → b ≡ true → b ≡ false → ⊥
+pub clash : (b : Bool) → b ≡ true → b ≡ false → ⊥
 clash b h k = cc
 
 pub same_tests : (a b : Bool) → (a ≡ true → b ≡ true) → (b ≡ true → a ≡ true) → a ≡ b

@@ -1,6 +1,6 @@
 use Rattle.std.proofs.Common.{◌∙◌, sym}
 use Rattle.hyp_sets.proofs.Answered.{if_ok_is}
-use Rattle.hyp_sets.proofs.SetLaws.{remove_absent}
+use Rattle.hyp_sets.proofs.Kept.{remove_absent}
 use Rattle.hyp_sets.proofs.hyps.Hyps.without.Goals as goal
 
 pub returns-else-holds : goal.returns-else-holds
