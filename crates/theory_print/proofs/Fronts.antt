@@ -1,5 +1,5 @@
 -- The front of a name, and the names that are held.
-use Rattle.std.proofs.Common.{◌≡◌, ℕ, suc, ◌+◌, ◌<◌, ◌^◌, cond, Bool, true, false, List, [], ◌∷◌, ◌++◌, length, take, get_or, IsTrue, refl, sym, ap, subst, ◌∙◌, decimal, arith, append_assoc}
+use Rattle.std.proofs.Common.{◌≡◌, inr, ℕ, suc, ◌+◌, ◌<◌, ◌^◌, cond, Bool, true, false, List, [], ◌∷◌, ◌++◌, length, take, get_or, IsTrue, refl, sym, ap, subst, ◌∙◌, decimal, arith, append_assoc}
 use Rattle.std.specs.Prelude.{Option, Some, None, Result, Ok, Err, IfOk, is_some, All, slice_index_or}
 use Rattle.std.specs.Option.{option_map}
 use Rattle.std.specs.List.{list_all, prefix_len}
@@ -13,6 +13,7 @@ use Rattle.theory_terms.specs.Words.{place}
 use Rattle.theory_print.specs.Names.{beginning, BeginsElse, is_before, front_of, Holds}
 use Rattle.theory_print.proofs.Digits.{digits_pass}
 use Rattle.theory_print.proofs.Finds.{eq_true, at_first, at_rest, placed_at}
+use Rattle.theory_print.proofs.FirstFree.{in_pushed}
 
 digit_before : (b : ℕ) → b < 10 → IsTrue (is_before (48 + b))
 digit_before b h = grind (arith, common_steps)
@@ -52,10 +53,10 @@ stays_at name xs ys None e h = cc
 stays_at name xs ys (Some i) e h = ap is_some ((placed_at name xs i e).1 ys)
 
 pub holds_more : (old : List (List ℕ)) (name : List ℕ) → Holds old name (old ++ name ∷ [])
-holds_more old name = (place_in name old [], λ other h. stays_at other old (name ∷ []) (place other old) refl h)
+holds_more old name = (place_in name old [], λ other h. stays_at other old (name ∷ []) (place other old) refl h, λ other h. in_pushed other name old h)
 
 pub holds_same : (old : List (List ℕ)) (name : List ℕ) (i : ℕ) → place name old ≡ Some i → Holds old name old
-holds_same old name i e = (ap is_some e, λ other h. h)
+holds_same old name i e = (ap is_some e, λ other h. h, λ other h. inr h)
 
 -- the fronts of the names are held
 abbrev pub AllHeld : List (List ℕ) → List Decl → Type 0

@@ -16,3 +16,4 @@ pub mod Writing
 pub mod Digits
 pub mod Fronts
 pub mod Lexing
+pub mod FirstFree

@@ -1,11 +1,12 @@
 -- The outermost form of a term, and the shape that it gives.
-use Rattle.std.specs.Prelude.{ℕ, ◌<◌, Option, Some, None}
+use Rattle.std.specs.Prelude.{ℕ, ◌<◌, nat_le, Bool, ◌&&◌, Option, Some, None, is_some}
 use Rattle.std.specs.Option.{option_map}
 use Rattle.hol_terms.specs.declared.konst.Konst.{Konst}
 use Rattle.hol_terms.specs.declared.konst.Konst.TheVariants as konst
 use Rattle.theory_syntax.specs.declared.tokens.Quant.{Quant}
 use Rattle.theory_syntax.specs.declared.tokens.Quant.TheVariants as quant
 use Rattle.theory_syntax.specs.declared.tree.Op.TheVariants as op
+use Rattle.hol_terms.specs.declared.term.Term.{Term}
 use Rattle.theory_terms.specs.Meanings.{depth}
 use Rattle.theory_print.specs.declared.view.View.{View}
 use Rattle.theory_print.specs.declared.view.View.TheVariants as view
@@ -17,6 +18,10 @@ use Rattle.theory_print.specs.Shapes.{Shape, Variable, Constant, Truth, Apply, E
 abbrev pub whole : Part → Option Shape
 whole (Whole p) = Some p
 whole _ = None
+
+-- some text has the term: it can be written, and its tree is no deeper than any that is read
+abbrev pub has_text : Term → Bool
+has_text t = nat_le (depth t) 1024 && is_some (whole (part_of t))
 
 -- a shape of two, where both parts are whole
 abbrev pub both_whole : (Shape → Shape → Shape) → Part → Part → Option Shape

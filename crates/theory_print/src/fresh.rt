@@ -1,7 +1,7 @@
-ghost use Rattle.std.specs.Prelude.{◌≡◌, ◌∷◌, [], ◌++◌, ◌<◌, ◌≤◌, ◌^◌, All, length, is_some, true, false, OnOk, IfOk};
+ghost use Rattle.std.specs.Prelude.{◌≡◌, ℕ, List, ◌∷◌, [], ◌++◌, ◌<◌, ◌≤◌, ◌^◌, All, length, is_some, true, false, OnOk, IfOk};
 ghost use Rattle.std.specs.List.{prefix_len};
 ghost use Rattle.theory_terms.specs.Words.{place};
-ghost use Rattle.theory_print.specs.Names.{IsFresh, beginning as beginning_of, is_before, front_of, Holds};
+ghost use Rattle.theory_print.specs.Names.{IsFirstFresh, beginning as beginning_of, is_before, front_of, Holds, IsFront, IsFirstFree};
 
 use std::alloc::Global;
 use text_kit::{Bytes, NoMemory, put_decimal};
@@ -39,7 +39,8 @@ fn hold<'t>(set: &mut Names<'t>, front: &'t [u8]) -> Result<(), NoMemory>
 
 /// The fronts of the names of constants.
 fn fronts<'t>(alloc: Global, consts: &'t [Decl]) -> Result<Names<'t>, NoMemory>
-    ensures { IfOk result (λ set. All (λ d. is_some (place (front_of d.name) set) ≡ true) consts.now) }
+    ensures all { IfOk result (λ set. All (λ d. is_some (place (front_of d.name) set) ≡ true) consts.now) }
+    ensures only { IfOk result (λ set. (name : List ℕ) → is_some (place name set) ≡ true → IsFront name consts.now) }
 {
     let mut set = Names::begin(alloc);
     for decl in consts {
@@ -59,25 +60,25 @@ fn beginning(alloc: Global, number: u32) -> Result<Bytes, NoMemory>
     Ok(name)
 }
 
-/// The first number whose beginning isn't held.
+/// The first number whose beginning isn't held. It is no greater than the number of names.
 fn first_free(alloc: Global, set: &Names) -> Result<u32, NoMemory>
-    ensures { IfOk result (λ k. (k < 2 ^ 32) × (is_some (place (beginning_of k) set.now) ≡ false)) }
+    ensures { IfOk result (λ k. IsFirstFree k set.now) }
 {
-    for number in 0..set.len().saturating_add(1) {
+    for number in 0..set.len() {
         let name = beginning(alloc, number)?;
         match set.place(name.as_slice()) {
             None => return Ok(number),
             Some(_) => {}
         }
     }
-    Err(NoMemory)
+    Ok(set.len())
 }
 
-/// A number for the names of bound variables: no constant's name begins as they do.
+/// The first number for the names of bound variables, such that no constant's name begins as they do.
 ///
-/// It is the first one, and no greater than the number of constants, since each constant rules out one at most.
+/// It is no greater than the number of constants, since each constant rules out one at most.
 pub fn fresh_number(alloc: Global, consts: &[Decl]) -> Result<u32, NoMemory>
-    ensures { IfOk result (λ k. IsFresh k consts.now) }
+    ensures { IfOk result (λ k. IsFirstFresh k consts.now) }
 {
     let set = fronts(alloc, consts)?;
     first_free(alloc, &set)

@@ -1,16 +1,16 @@
-ghost use Rattle.std.specs.Prelude.{◌≡◌, ◌+◌, ◌-◌, ◌≤◌, ◌<◌, ◌∷◌, [], ◌++◌, List, Some, slice_get, OnOk};
+ghost use Rattle.std.specs.Prelude.{◌≡◌, ◌+◌, ◌-◌, ◌≤◌, ◌<◌, ◌∷◌, [], ◌++◌, List, Some, slice_get, false, IfOk, OnOk};
 ghost use Rattle.std.specs.Option.{option_map};
 ghost use Rattle.theory_terms.specs.Meanings.{depth as depth_of};
 ghost use Rattle.theory_print.specs.Lexemes.{Lexeme, Name, laid};
 ghost use Rattle.theory_print.specs.Names.{variable};
 ghost use Rattle.theory_print.specs.Shapes.{Apply, Equals, Not, Join, Bind, part_of};
-ghost use Rattle.theory_print.specs.Views.{whole, both_whole};
+ghost use Rattle.theory_print.specs.Views.{whole, both_whole, has_text as can_be_read};
 ghost use Rattle.theory_print.specs.Written.{rank as rank_of, left_of as left_sort, right_of as right_sort, constant_name, binder_lexemes, sentence_lexemes};
 ghost use Rattle.theory_print.specs.Printing.{declared_in, opening, closing, Writes};
 
 use crate::lexeme::{put, put_binder, put_sign, put_truth, put_variable};
 use crate::view::{View, view_of};
-use crate::{Sort, Vocabulary, put_type};
+use crate::{Sort, Vocabulary, has_text, put_type};
 use hol_terms::{Term, Ty};
 use text_kit::{Bytes, NoMemory};
 use theory_syntax::{Op, Quant};
@@ -239,13 +239,20 @@ fn put_bind(
     close(out, Sort::Formula, sort)
 }
 
-/// Appends a term that stands alone, with the fewest brackets, a blank behind each of its tokens.
+/// Appends a term that stands alone, with the fewest brackets, a blank behind each of its tokens, and says whether
+/// some text has it (`has_text`). Nothing is appended where none has.
 ///
 /// A sentence that some text reads as is read again from these bytes, where the names are declared and no constant's
-/// name begins as the names of bound variables do (`fresh_number`). A term that is written in no text, or whose tree
-/// is deeper than any text's, gives some bytes. A refused call may have appended a part.
-pub fn put_sentence(out: &mut Bytes, names: &Vocabulary, t: &Term) -> Result<(), NoMemory>
-    ensures { OnOk result ((xs : List Lexeme) → sentence_lexemes names.now.number (declared_in names.now) t.now ≡ Some xs → depth_of t.now ≤ 1024 → out.new ≡ out.old ++ laid xs) }
+/// name begins as the names of bound variables do (`fresh_number`). Want of memory may leave a part appended.
+pub fn put_sentence(out: &mut Bytes, names: &Vocabulary, t: &Term) -> Result<bool, NoMemory>
+    ensures told { IfOk result (λ b. b ≡ can_be_read t.now) }
+    ensures text { OnOk result ((xs : List Lexeme) → sentence_lexemes names.now.number (declared_in names.now) t.now ≡ Some xs → depth_of t.now ≤ 1024 → out.new ≡ out.old ++ laid xs) }
+    ensures none { OnOk result (can_be_read t.now ≡ false → out.new ≡ out.old) }
 {
-    put_term(out, names, 1024, 0, Sort::Formula, t)
+    if has_text(t) {
+        put_term(out, names, 1024, 0, Sort::Formula, t)?;
+        Ok(true)
+    } else {
+        Ok(false)
+    }
 }

@@ -1,4 +1,4 @@
-use crate::{Vocabulary, fresh_number, put_sentence, put_type, read_again};
+use crate::{Vocabulary, fresh_number, has_text, put_sentence, put_type, read_again};
 use hol_terms::{Konst, Term, Ty, arrow};
 use std::alloc::Global;
 use std::test::Fail;
@@ -134,5 +134,6 @@ fn prints(rt: HostRuntime) -> Result<(), Fail> {
         _ => false,
     };
     assert!(rt; printed);
+    assert!(rt; !has_text(&Term::Free(0, Ty::Base(0))));
     Ok(())
 }

@@ -1,5 +1,5 @@
 -- What some text declares is declared again by the printed one.
-use Rattle.std.proofs.Common.{◌≡◌, ℕ, ◌+◌, ◌≤◌, ◌<◌, ◌^◌, ◌∙◌, Bool, true, false, ◌&&◌, ◌||◌, nat_le, IsTrue, List, [], ◌∷◌, ◌++◌, length, Some, None, ap, sym, subst, refl, arith, append_assoc}
+use Rattle.std.proofs.Common.{◌≡◌, ℕ, ◌+◌, ◌≤◌, ◌∙◌, false, ◌||◌, nat_le, IsTrue, List, [], ◌∷◌, ◌++◌, length, None, ap, sym, subst, refl, arith, append_assoc}
 use Rattle.std.specs.Prelude.{is_some}
 use Rattle.std.specs.List.{list_all}
 use Rattle.std.specs.Str.{bytes_eq}
@@ -7,23 +7,20 @@ use Rattle.std.proofs.lemmas.List.{append-nil, length-append}
 use Rattle.hol_terms.proofs.Both.{both_true, and_true}
 use Rattle.hol_terms.specs.declared.ty.Ty.{Ty}
 use Rattle.hol_terms.specs.declared.term.Term.{Term}
-use Rattle.theory_syntax.specs.declared.tokens.Word.{Word}
 use Rattle.theory_syntax.specs.declared.tokens.Tok.{Tok}
 use Rattle.theory_syntax.specs.declared.tokens.Tok.TheVariants as tok
 use Rattle.theory_syntax.specs.declared.tree.Hyp.{Hyp}
-use Rattle.theory_syntax.specs.declared.tree.Tree.{Tree}
 use Rattle.theory_syntax.specs.declared.tree.Item.{Item}
 use Rattle.theory_syntax.specs.Grammar.{Placed, IsTheory, Declares, AreHyps, IsType, Whole, Derives, Formula}
 use Rattle.theory_syntax.specs.Grammar as grammar
 use Rattle.theory_syntax.specs.Machine.{put}
 use Rattle.theory_syntax.specs.Reading.{Within}
 use Rattle.theory_terms.specs.declared.decl.Decl.{Decl}
-use Rattle.theory_terms.specs.Answers.{Good, and_then}
+use Rattle.theory_terms.specs.Answers.{Good}
 use Rattle.theory_terms.specs.Words.{word_at, place}
 use Rattle.theory_terms.specs.Signature.{Declared, found}
-use Rattle.theory_terms.specs.Meanings.{sentence}
 use Rattle.theory_terms.proofs.Openings.{opened, good_same}
-use Rattle.theory_print.specs.Lexemes.{Lexeme, Name, Semi, Spells, names_pass}
+use Rattle.theory_print.specs.Lexemes.{Semi, Spells, names_pass}
 use Rattle.theory_print.specs.Types.{type_lexemes}
 use Rattle.theory_print.specs.Names.{variable, IsFresh}
 use Rattle.theory_print.specs.Laws.{Extends, ReadsType, ReadsSentence, Prints}

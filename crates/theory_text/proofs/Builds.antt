@@ -1,6 +1,6 @@
 -- Tokens of a text that go on from what is declared to more.
-use Rattle.std.proofs.Common.{◌≡◌, ℕ, ◌≤◌, ◌∙◌, Bool, true, false, ◌||◌, nat_le, List, [], ◌∷◌, ◌++◌, length, Some, None, ap, sym, subst, refl, arith, append_assoc}
-use Rattle.std.specs.Prelude.{Option, is_some}
+use Rattle.std.proofs.Common.{◌≡◌, ℕ, ◌∙◌, false, ◌||◌, nat_le, List, [], ◌∷◌, ◌++◌, length, None, ap, sym, subst, refl, arith, append_assoc}
+use Rattle.std.specs.Prelude.{is_some}
 use Rattle.std.specs.Str.{bytes_eq}
 use Rattle.std.proofs.lemmas.List.{append-nil}
 use Rattle.first_fault.proofs.Fronts.{within-append}
@@ -9,8 +9,6 @@ use Rattle.hol_terms.specs.declared.term.Term.{Term}
 use Rattle.theory_syntax.specs.declared.tokens.Word.{Word}
 use Rattle.theory_syntax.specs.declared.tokens.Tok.{Tok}
 use Rattle.theory_syntax.specs.declared.tokens.Tok.TheVariants as tok
-use Rattle.theory_syntax.specs.declared.tree.Tree.{Tree}
-use Rattle.theory_syntax.specs.declared.tree.TyTree.{TyTree}
 use Rattle.theory_syntax.specs.declared.tree.Hyp.{Hyp}
 use Rattle.theory_syntax.specs.declared.tree.Item.{Item}
 use Rattle.theory_syntax.specs.declared.tree.Item.TheVariants as item
@@ -18,11 +16,10 @@ use Rattle.theory_syntax.specs.Grammar.{Placed, IsTheory, Declares, AreHyps, Who
 use Rattle.theory_syntax.specs.Grammar as grammar
 use Rattle.theory_syntax.specs.Machine.{put}
 use Rattle.theory_syntax.specs.Reading.{Within}
-use Rattle.theory_terms.specs.declared.decl.Decl.{Decl}
 use Rattle.theory_terms.specs.declared.fault.TheoryKind.TheVariants.{Repeated, TooMany}
-use Rattle.theory_terms.specs.Answers.{Answer, Good, and_then}
+use Rattle.theory_terms.specs.Answers.{Good, and_then}
 use Rattle.theory_terms.specs.Words.{word_at, place}
-use Rattle.theory_terms.specs.Signature.{Declared, found}
+use Rattle.theory_terms.specs.Signature.{found}
 use Rattle.theory_terms.specs.Types.{type_of_tree}
 use Rattle.theory_terms.specs.Meanings.{sentence}
 use Rattle.theory_terms.proofs.Openings.{opened, good_same}

@@ -1,5 +1,5 @@
 -- What is printed is cut into tokens that say its lexemes.
-use Rattle.std.proofs.Common.{◌≡◌, ℕ, ◌+◌, ◌≤◌, ◌<◌, ◌^◌, not, ◌||◌, ◌&&◌, if◌then◌else◌, Bool, true, false, List, [], ◌∷◌, ◌++◌, map, length, take, drop, IsTrue, codes, decimal, nat_le, refl, sym, ap, subst, ◌∙◌, arith, rules, length-append}
+use Rattle.std.proofs.Common.{◌≡◌, ℕ, ◌+◌, ◌≤◌, ◌<◌, ◌^◌, not, ◌||◌, ◌&&◌, if◌then◌else◌, Bool, true, false, List, [], ◌∷◌, ◌++◌, length, take, IsTrue, codes, decimal, nat_le, refl, sym, ap, subst, ◌∙◌, arith, rules, length-append}
 use Rattle.std.specs.Prelude.{slice_index}
 use Rattle.std.specs.List.{list_all, list_any}
 use Rattle.std.specs.Char.{is_ascii_alphabetic}
@@ -8,13 +8,10 @@ use Rattle.std.proofs.Math.Seq.{drop-append_seam}
 use Rattle.std.proofs.lemmas.Fmt.{length-decimal-le}
 use Rattle.std.proofs.lemmas.Grind.{common_steps}
 use Rattle.std.proofs.lemmas.List.Folds.{list_all-append}
-use Rattle.hol_terms.proofs.Both.{both_true, and_true, both_false}
-use Rattle.text_kit.specs.declared.cut.Kind.TheVariants as kind
-use Rattle.text_kit.specs.declared.cut.Token.{Token}
+use Rattle.hol_terms.proofs.Both.{both_true, and_true}
 use Rattle.text_kit.specs.Tokens.{is_word_byte, token, Cuts}
 use Rattle.theory_syntax.specs.declared.tokens.Word.{Word}
 use Rattle.theory_syntax.specs.declared.tokens.Quant.TheVariants as quant
-use Rattle.theory_syntax.specs.declared.tokens.Tok.{Tok}
 use Rattle.theory_syntax.specs.declared.tokens.Tok.TheVariants as tok
 use Rattle.theory_syntax.specs.declared.tree.Op.TheVariants as op
 use Rattle.theory_terms.specs.Words.{word_at}

@@ -5,3 +5,4 @@ mod Again
 mod Lexed
 mod ReadAgain
 mod Laying
+mod HaveText

@@ -1,12 +1,12 @@
 -- A theory that some text reads as is read again from its print.
-use Rattle.std.proofs.Common.{◌≡◌, ℕ, ◌<◌, ◌^◌, ◌∙◌, IsTrue, List, [], ◌∷◌, ◌++◌, ap, sym, subst, refl, arith}
+use Rattle.std.proofs.Common.{◌≡◌, ℕ, ◌∙◌, IsTrue, List, [], ◌++◌, sym, subst, arith}
 use Rattle.std.specs.List.{list_all}
 use Rattle.std.proofs.lemmas.List.Folds.{list_all-map}
 use Rattle.hol_terms.proofs.Both.{both_true}
 use Rattle.theory_syntax.specs.declared.tokens.Tok.{Tok}
 use Rattle.theory_terms.specs.declared.decl.Decl.{Decl}
 use Rattle.theory_print.specs.Lexemes.{Lexeme, laid, Spells, names_pass}
-use Rattle.theory_print.specs.Names.{variable, IsFresh}
+use Rattle.theory_print.specs.Names.{IsFresh}
 use Rattle.theory_print.proofs.Spelling.{split}
 use Rattle.theory_print.proofs.Lexing.{tokens_at}
 use Rattle.theory_reader.specs.declared.statement.Fact.{Fact}

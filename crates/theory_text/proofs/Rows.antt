@@ -1,6 +1,5 @@
 -- The lexemes of facts and goals in their order, one statement more.
-use Rattle.std.proofs.Common.{◌≡◌, ℕ, zero, suc, ◌+◌, ◌≤◌, ◌<◌, ◌∙◌, Bool, true, false, nat_le, IsTrue, List, [], ◌∷◌, ◌++◌, take, drop, ap, sym, refl, arith, append_assoc, cond}
-use Rattle.std.specs.List.{list_all, prefix_len}
+use Rattle.std.proofs.Common.{◌≡◌, ℕ, suc, ◌+◌, ◌≤◌, ◌<◌, ◌∙◌, Bool, IsTrue, List, [], ◌∷◌, ◌++◌, take, drop, ap, refl, arith, append_assoc, cond}
 use Rattle.std.proofs.lemmas.Bool.{lt-leb, le-leb}
 use Rattle.std.proofs.lemmas.List.Folds.{list_all-append}
 use Rattle.hol_terms.proofs.Both.{and_true}
@@ -8,7 +7,7 @@ use Rattle.theory_terms.specs.Signature.{Declared}
 use Rattle.theory_print.specs.Lexemes.{Lexeme, name_passes, names_pass}
 use Rattle.theory_reader.specs.declared.statement.Fact.{Fact}
 use Rattle.theory_reader.specs.declared.statement.Goal.{Goal}
-use Rattle.theory_text.specs.Printed.{fact_item, goal_item, goal_items, stands_before, goals_before, statements}
+use Rattle.theory_text.specs.Printed.{fact_item, goal_item, goal_items, goals_before, statements}
 
 -- the first of the goals stands behind so many facts at least
 abbrev pub Later : ℕ → List Goal → Type 0

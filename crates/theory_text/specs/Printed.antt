@@ -1,6 +1,6 @@
 -- How a theory is printed: its types, its constants, and then its facts and goals in their order.
-use Rattle.std.specs.Prelude.{◌≡◌, ℕ, ◌+◌, ◌≤◌, nat_le, Bool, List, [], ◌∷◌, ◌++◌, take, drop, Option, Some, None}
-use Rattle.std.specs.List.{prefix_len}
+use Rattle.std.specs.Prelude.{◌≡◌, ℕ, ◌+◌, ◌≤◌, nat_le, Bool, ◌&&◌, List, [], ◌∷◌, ◌++◌, take, drop, Option, Some, None}
+use Rattle.std.specs.List.{list_all, prefix_len}
 use Rattle.hol_terms.specs.declared.term.Term.{Term}
 use Rattle.theory_syntax.specs.Grammar.{Whole}
 use Rattle.theory_terms.specs.declared.decl.Decl.{Decl}
@@ -8,6 +8,7 @@ use Rattle.theory_terms.specs.Signature.{Declared}
 use Rattle.theory_terms.specs.Meanings.{depth}
 use Rattle.theory_print.specs.Lexemes.{Lexeme, Name, Colon, TypeWord, ConstWord, FactWord, GoalWord, AssumeWord, Semi}
 use Rattle.theory_print.specs.Types.{type_lexemes}
+use Rattle.theory_print.specs.Views.{has_text}
 use Rattle.theory_print.specs.Written.{sentence_lexemes}
 use Rattle.theory_reader.specs.declared.statement.Fact.{Fact}
 use Rattle.theory_reader.specs.declared.statement.Goal.{Goal}
@@ -76,6 +77,17 @@ module _ (k : ℕ) (all : Declared) where
   abbrev pub GoalsWritten : List Goal → Type 0
   GoalsWritten [] = Unit {0}
   GoalsWritten (g ∷ gs) = (IsWritten g.formula × FactsWritten g.assumes) × GoalsWritten gs
+
+-- some text has each fact's sentence
+abbrev pub facts_have_text : List Fact → Bool
+facts_have_text = list_all (λ f. has_text f.formula)
+
+abbrev pub goal_has_text : Goal → Bool
+goal_has_text g = has_text g.formula && facts_have_text g.assumes
+
+-- some text has each sentence of a theory
+abbrev pub sentences_have_text : Declarations → Bool
+sentences_have_text t = facts_have_text t.facts && list_all goal_has_text t.goals
 
 -- the lexemes of a theory
 abbrev pub theory_lexemes : ℕ → Declarations → List Lexeme

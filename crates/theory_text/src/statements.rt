@@ -93,7 +93,8 @@ fn put_stated(
     ensures { OnOk result (IsWritten names.now.number (declared_in names.now) t.now → out.new ≡ out.old ++ laid (opening heading ∷ Name name.now ∷ Colon ∷ shown names.now.number (declared_in names.now) t.now)) }
 {
     put_heading(out, heading, name)?;
-    put_sentence(out, names, t)
+    put_sentence(out, names, t)?;
+    Ok(())
 }
 
 fn put_fact(out: &mut Bytes, names: &Vocabulary, fact: &Fact) -> Result<(), NoMemory>
