@@ -1,0 +1,5 @@
+pub mod Drains
+pub mod Ends
+pub mod Boards
+pub mod Calls
+pub mod inner
