@@ -1,0 +1,5 @@
+pub mod Finishing
+pub mod Losing
+pub mod Outcomes
+pub mod Stepping
+pub mod Unlost

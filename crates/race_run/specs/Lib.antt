@@ -1,0 +1,5 @@
+pub mod Drains
+pub mod Losses
+pub mod Races
+pub mod Watches
+pub mod inner

@@ -1,0 +1,5 @@
+pub mod Reading
+pub mod Replays
+pub mod Seats
+pub mod Sweeping
+pub mod Working
