@@ -158,10 +158,10 @@ module _ (p : ℕ → Bool) where
   smaller zero v h e = absurd (omega arith)
   smaller (suc n) v h e = smaller_step n v (p n) refl (v == n) refl h e (λ less. smaller n v less e)
 
-  taken_place : (m v : ℕ) → nat_lt v m ≡ true → p v ≡ true → lambda_of p m v ≡ length (variables p v)
+  pub taken_place : (m v : ℕ) → nat_lt v m ≡ true → p v ≡ true → lambda_of p m v ≡ length (variables p v)
   taken_place m v l b = (λ i. if l i && b i then length (variables p v) else v + length (variables p m))
 
-  beyond_place : (m v : ℕ) → (nat_lt v m && p v) ≡ false → lambda_of p m v ≡ v + length (variables p m)
+  pub beyond_place : (m v : ℕ) → (nat_lt v m && p v) ≡ false → lambda_of p m v ≡ v + length (variables p m)
   beyond_place m v h = ap (λ b. if b then length (variables p v) else v + length (variables p m)) h
 
   passed_over : (b c : Bool) → c ≡ false → (b && c) ≡ false

@@ -104,7 +104,7 @@ there : (table : List Aux) (t : Term) → list_any (is_same t) (closed_terms tab
 there [] t h = cc
 there (e ∷ table) t h = entry_step t e table (is_same t e.closed) refl h (there table t)
 
-within : {X : Type 0} (xs : List X) (k : ℕ) (x : X) → slice_get xs k ≡ Some x → (ys : List X) → slice_get (xs ++ ys) k ≡ Some x
+pub within : {X : Type 0} (xs : List X) (k : ℕ) (x : X) → slice_get xs k ≡ Some x → (ys : List X) → slice_get (xs ++ ys) k ≡ Some x
 within [] k x h ys = cc
 within (y ∷ xs) zero x h ys = h
 within (y ∷ xs) (suc k) x h ys = within xs k x h ys

@@ -115,7 +115,7 @@ module _ (sig : Sig) where
   next_grows s rest (Some k) h =
       let w = lifted_equation sig k s in grows_trans s.table w.after.table (rest w.after).table (formula_lifted_grows _ s) (h w.after)
 
-  equated_grows : (most at : ℕ) (s : Stage) → Grows s.table (equated sig most at s).table
+  pub equated_grows : (most at : ℕ) (s : Stage) → Grows s.table (equated sig most at s).table
   unfolding equated
   equated_grows zero at s = grows_refl s.table
   equated_grows (suc most) at s = next_grows s (equated sig most (at + 1)) (slice_get s.met at) (equated_grows most (at + 1))

@@ -1,6 +1,6 @@
 -- No two terms have one key.
-use Rattle.std.proofs.Common.{◌≡◌, ℕ, true, false, nat_eq, ◌==◌, if◌then◌else◌, List, [], ◌∷◌, ◌++◌, refl, sym, ap, ◌∙◌, arith, append_assoc}
-use Rattle.std.specs.Cmp.Lexicographic.{bytes_decides}
+use Rattle.std.proofs.Common.{◌≡◌, ℕ, Bool, true, false, nat_eq, ◌==◌, if◌then◌else◌, List, [], ◌∷◌, ◌++◌, refl, sym, ap, ◌∙◌, arith, append_assoc}
+use Rattle.std.specs.Cmp.Lexicographic.{bytes_decides, pointwise}
 use Rattle.std.proofs.lemmas.Bool.Decides.{nat_tests}
 use Rattle.hol_terms.specs.declared.ty.Ty.{Ty, roll-Ty}
 use Rattle.hol_terms.specs.declared.ty.Ty.TheOpen.{Ty-F}
@@ -10,7 +10,9 @@ use Rattle.hol_terms.specs.declared.konst.Konst.TheVariants as konst
 use Rattle.hol_terms.specs.declared.term.Term.{Term, roll-Term}
 use Rattle.hol_terms.specs.declared.term.Term.TheOpen.{Term-F}
 use Rattle.hol_terms.specs.declared.term.Term.TheFolds.{fold-roll-Term}
+use Rattle.hol_terms.specs.Types.{is_ty}
 use Rattle.hol_terms.proofs.TyCases as ty_cases
+use Rattle.hol_terms.proofs.TyCases.{is_ty_same, is_ty_itself}
 use Rattle.hol_terms.proofs.TermCases as term_cases
 use Rattle.lambda_lift.specs.Keys.{ty_key, ty_key_step, key, key_step, kind_of, number_of, type_of, is_same}
 
@@ -72,6 +74,18 @@ told_arrow a b ha hb =
 ty_told : (a : Ty) → TyTold a
 ty_told = ty_cases.by_cases TyTold told_base told_arrow
 
+pub ty_key_told : (a b : Ty) → ty_key a ≡ ty_key b → a ≡ b
+ty_key_told a b h = (ty_told a b [] [] (ap (λ l. l ++ []) h)).0
+
+same_step : (a b : Ty) (c : Bool) → is_ty a b ≡ c → (d : Bool) → pointwise nat_eq (ty_key a) (ty_key b) ≡ d → d ≡ c
+same_step a b true e d h = sym h ∙ (bytes_decides (ty_key a) (ty_key b)).1 (ap ty_key (is_ty_same a b e))
+same_step a b false e true h = sym (sym e ∙ ap (is_ty a) (sym (ty_key_told a b ((bytes_decides (ty_key a) (ty_key b)).0 h))) ∙ is_ty_itself a)
+same_step a b false e false h = refl
+
+-- types have one key exactly where they are one
+pub same_ty_key : (a b : Ty) → pointwise nat_eq (ty_key a) (ty_key b) ≡ is_ty a b
+same_ty_key a b = same_step a b (is_ty a b) refl (pointwise nat_eq (ty_key a) (ty_key b)) refl
+
 -- ---- constants
 rebuilt : ℕ → ℕ → Ty → Konst
 rebuilt k n a =
@@ -94,7 +108,7 @@ rebuilt_is (konst.All a) = refl
 rebuilt_is (konst.Ex a) = refl
 rebuilt_is (konst.Eps a) = refl
 
-konst_told : (k c : Konst) (r q : List ℕ) → (2 ∷ kind_of k ∷ number_of k ∷ ty_key (type_of k)) ++ r ≡ (2 ∷ kind_of c ∷ number_of c ∷ ty_key (type_of c)) ++ q → (k ≡ c) × (r ≡ q)
+pub konst_told : (k c : Konst) (r q : List ℕ) → (2 ∷ kind_of k ∷ number_of k ∷ ty_key (type_of k)) ++ r ≡ (2 ∷ kind_of c ∷ number_of c ∷ ty_key (type_of c)) ++ q → (k ≡ c) × (r ≡ q)
 konst_told k c r q h =
     let one = tails 2 2 _ _ h in
     let two = tails (kind_of k) (kind_of c) _ _ one in

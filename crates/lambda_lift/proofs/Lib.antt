@@ -4,6 +4,7 @@ pub mod Occurring
 pub mod Binding
 pub mod Formed
 pub mod Looking
+pub mod KeySets
 pub mod Ending
 pub mod Scoped
 pub mod Rounds
@@ -17,3 +18,5 @@ pub mod Growing
 pub mod Sides
 pub mod PathsBehind
 pub mod RawEquations
+pub mod Typings
+pub mod Standings

@@ -16,11 +16,11 @@ use Rattle.lambda_lift.specs.Places.{IsNew, Numbers}
 
 -- ---- tests over a mapped list
 module _ {X Y : Type 0} (f : X → Y) (p : Y → Bool) where
-  any_map : (xs : List X) → list_any p (map f xs) ≡ list_any (λ x. p (f x)) xs
+  pub any_map : (xs : List X) → list_any p (map f xs) ≡ list_any (λ x. p (f x)) xs
   any_map [] = refl
   any_map (x ∷ xs) = let rest = any_map xs in grind (arith, common_steps)
 
-  place_map : (xs : List X) → position_or_len p (map f xs) ≡ position_or_len (λ x. p (f x)) xs
+  pub place_map : (xs : List X) → position_or_len p (map f xs) ≡ position_or_len (λ x. p (f x)) xs
   place_map [] = refl
   place_map (x ∷ xs) = let rest = place_map xs in grind (arith, common_steps)
 
@@ -42,11 +42,11 @@ module _ {X : Type 0} (p : X → Bool) where
   past_all [] h = refl
   past_all (x ∷ xs) h = past_step (p x) (list_any p xs) (position_or_len p xs) (length xs) h (past_all xs)
 
-got : (b : Bool) (k i : ℕ) → cond b (Some k) None ≡ Some i → (b ≡ true) × (k ≡ i)
+pub got : (b : Bool) (k i : ℕ) → cond b (Some k) None ≡ Some i → (b ≡ true) × (k ≡ i)
 got true k i h = (refl, cc)
 got false k i h = cc
 
-got_none : (b : Bool) (k : ℕ) → cond b (Some k) None ≡ None → b ≡ false
+pub got_none : (b : Bool) (k : ℕ) → cond b (Some k) None ≡ None → b ≡ false
 got_none true k h = cc
 got_none false k h = refl
 

@@ -60,7 +60,7 @@ or_false : (b : Bool) → (b || false) ≡ b
 or_false true = refl
 or_false false = refl
 
-occurs_bound : (v i d : ℕ) → occurs_behind v (roll-Term (Term-F.Bound i)) d ≡ (i == d + v)
+pub occurs_bound : (v i d : ℕ) → occurs_behind v (roll-Term (Term-F.Bound i)) d ≡ (i == d + v)
 occurs_bound v i d = search (rules, the_lemmas)
 
 module _ (i d : ℕ) (old : List Bool) (above : d ≤ i) (within : i - d < length old) where

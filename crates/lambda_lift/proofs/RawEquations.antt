@@ -90,7 +90,7 @@ module _ (sig : Sig) where
       (λ binders s. applied (con (konst.All a)) (lam a (for_all types t)) binders s (record { term = con (konst.All a); after = s }) _ (kept_con (konst.All a) binders s)
       (under a (for_all types t) binders s _ (inner (a ∷ binders) s)))
 
-  equation_right : (k : ℕ) (e : Aux) → IsTrue (aux_free e.closed) → Right sig (equation k e) (reading sig (equation k e)).formula
+  pub equation_right : (k : ℕ) (e : Aux) → IsTrue (aux_free e.closed) → Right sig (equation k e) (reading sig (equation k e)).formula
   equation_right k e h =
       let types = run e.closed in
       let body = behind types e.closed in

@@ -51,7 +51,7 @@ pub aux_free_lambdas : (types : List Ty) (t : Term) → aux_free (lambdas types 
 aux_free_lambdas [] t = refl
 aux_free_lambdas (a ∷ types) t = aux_free-lam a (lambdas types t) ∙ aux_free_lambdas types t
 
-closed_lambdas : (types : List Ty) (t : Term) (k : ℕ) → closed_under (lambdas types t) k ≡ closed_under t (k + length types)
+pub closed_lambdas : (types : List Ty) (t : Term) (k : ℕ) → closed_under (lambdas types t) k ≡ closed_under t (k + length types)
 closed_lambdas [] t k = let same : k ≡ k + 0 = omega arith in ap (closed_under t) same
 closed_lambdas (a ∷ types) t k =
     let next : (k + 1) + length types ≡ k + suc (length types) = omega arith in closed-lam a (lambdas types t) k ∙ closed_lambdas types t (k + 1) ∙ ap (closed_under t) next

@@ -4,6 +4,7 @@ pub mod Closing
 pub mod Walks
 pub mod Equations
 pub mod Lifting
+pub mod Wholes
 pub mod Contractions
 pub mod Redexes
 pub mod Scopes
@@ -11,3 +12,4 @@ pub mod Marks
 pub mod Views
 pub mod Places
 pub mod Laws
+pub mod Standing

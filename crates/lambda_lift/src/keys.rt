@@ -1,11 +1,12 @@
-ghost use Rattle.std.specs.Prelude.{◌≡◌, ◌++◌, OnOk, IfOk};
+ghost use Rattle.std.specs.Prelude.{◌≡◌, ◌∷◌, ◌++◌, OnOk, IfOk};
 ghost use Rattle.lambda_lift.specs.Keys.{ty_key, key, kind_of, number_of, type_of};
 
 use hol_terms::{Konst, Term, Ty};
 use std::alloc::Global;
 use text_kit::{NoMemory, Rows};
 
-fn put_ty_key(out: &mut Rows<u64>, t: &Ty) -> Result<(), NoMemory>
+/// Appends the numbers by which a type is told from others.
+pub fn put_ty_key(out: &mut Rows<u64>, t: &Ty) -> Result<(), NoMemory>
     ensures { OnOk result (out.new ≡ out.old ++ ty_key t.now) }
 {
     match t {
@@ -62,6 +63,15 @@ fn put_konst_ty(out: &mut Rows<u64>, k: &Konst) -> Result<(), NoMemory>
     }
 }
 
+/// Appends the numbers by which a constant is told from others: its kind, its number and its type.
+pub fn put_konst_key(out: &mut Rows<u64>, k: &Konst) -> Result<(), NoMemory>
+    ensures { OnOk result (out.new ≡ out.old ++ kind_of k.now ∷ number_of k.now ∷ ty_key (type_of k.now)) }
+{
+    out.push(kind(k))?;
+    out.push(number(k))?;
+    put_konst_ty(out, k)
+}
+
 fn put_key(out: &mut Rows<u64>, t: &Term) -> Result<(), NoMemory>
     ensures { OnOk result (out.new ≡ out.old ++ key t.now) }
 {
@@ -77,9 +87,7 @@ fn put_key(out: &mut Rows<u64>, t: &Term) -> Result<(), NoMemory>
         }
         Term::Con(k) => {
             out.push(2)?;
-            out.push(kind(k))?;
-            out.push(number(k))?;
-            put_konst_ty(out, k)
+            put_konst_key(out, k)
         }
         Term::App(f, x) => {
             out.push(3)?;
@@ -100,5 +108,14 @@ pub fn key_of(alloc: Global, t: &Term) -> Result<Vec<u64>, NoMemory>
 {
     let mut out = Rows::begin(alloc);
     put_key(&mut out, t)?;
+    Ok(out.into_vec())
+}
+
+/// The list of numbers by which a type is looked up.
+pub fn key_of_ty(alloc: Global, t: &Ty) -> Result<Vec<u64>, NoMemory>
+    ensures { IfOk result (λ k. k.items ≡ ty_key t.now) }
+{
+    let mut out = Rows::begin(alloc);
+    put_ty_key(&mut out, t)?;
     Ok(out.into_vec())
 }

@@ -1,4 +1,5 @@
 ghost use Rattle.lambda_lift.specs.Laws.{KeysTell, BodyIsFormula, EquationsHold};
+ghost use Rattle.lambda_lift.specs.Standing.{LiftedStands};
 ghost use Rattle.lambda_lift.specs.Views.{stage};
 
 use crate::{Aux, Table};
@@ -31,4 +32,12 @@ pub fn equations_hold(
     more: &Rows<Aux>,
 )
     ensures { EquationsHold sig.now (stage table.now met.now) number entry.now more.now }
+{}
+
+/// What a lift gives stands over the table that it leaves: the body and each equation is a formula of the signature and
+/// that table without free variables, and each of the table's entries stands alone, where the old ones did.
+///
+/// So the table may be lifted over again, and the formulas be taken by calls that want this of them.
+pub fn lifted_stands(sig: &Sig, table: &Table, formula: &Term)
+    ensures { LiftedStands sig.now table.now formula.now }
 {}

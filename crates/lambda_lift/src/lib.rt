@@ -5,6 +5,7 @@
 mod closing;
 mod equation;
 mod expanding;
+mod key_set;
 mod keys;
 mod laws;
 mod lifting;
@@ -14,12 +15,17 @@ mod scope;
 mod table;
 mod view;
 mod walk;
+mod wholes;
 
 pub use expanding::expand;
-pub use laws::{body_is_formula, equations_hold, keys_tell};
+pub use key_set::KeySet;
+pub use keys::{key_of_ty, put_konst_key, put_ty_key};
+pub use laws::{body_is_formula, equations_hold, keys_tell, lifted_stands};
 pub use lifting::{Lifted, lift};
 pub use paths::redexes;
+pub use scope::{Scope, nth};
 pub use table::{Aux, Table};
+pub use wholes::whole;
 
 #[cfg(test)]
 mod tests;

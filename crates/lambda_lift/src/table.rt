@@ -108,7 +108,7 @@ impl Table {
     }
 
     /// `add`, for any term.
-    pub(crate) fn put(&mut self, ty: &Ty, closed: &Term) -> Result<u64, NoMemory>
+    pub fn put(&mut self, ty: &Ty, closed: &Term) -> Result<u64, NoMemory>
         ensures number { IfOk result (λ k. k ≡ place self.old closed.now) }
         ensures table { OnOk result (self.new ≡ with_entry self.old ty.now closed.now) }
         ensures err { OnErr result (self.new ≡ self.old) }
