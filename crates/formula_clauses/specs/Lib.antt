@@ -1,0 +1,6 @@
+pub mod Choices
+pub mod Sizes
+pub mod Walks
+pub mod Fits
+pub mod Clausified
+pub mod inner
