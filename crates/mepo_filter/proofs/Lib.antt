@@ -1,0 +1,12 @@
+pub mod TableLemmas
+pub mod Distinct
+pub mod Added
+pub mod Sorted
+pub mod Above
+pub mod Joined
+pub mod RoundLemmas
+pub mod Onward
+pub mod Whole
+pub mod Growing
+pub mod Members
+pub mod Leasts
