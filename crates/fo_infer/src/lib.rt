@@ -16,10 +16,14 @@ mod single;
 mod source;
 mod subsuming;
 
+pub use concluding::push_rest;
 pub use laws::{alone_is_one_list, between_is_one_list};
 pub use made::{Made, Rule};
 pub use pairs::{between, between_plain};
+pub use paramodulating::push_changed;
+pub use paths::replace_in_atom;
 pub use refutation::{Line, Origin, Refutation};
+pub use renaming::{above_literals, renamed};
 pub use single::alone;
 pub use subsuming::subsumes;
 

@@ -37,7 +37,7 @@ fn not_below(alloc: Global, binds: &[Bind], s: &FoTerm, t: &FoTerm) -> Result<bo
 }
 
 /// Adds literals with another one in the place of one of them, all with the substitution put through.
-fn push_changed(
+pub fn push_changed(
     alloc: Global,
     binds: &[Bind],
     literals: &[Literal],

@@ -53,7 +53,9 @@ fn above_literal(l: &Literal, floor: u64) -> Result<u64, NoMemory>
 }
 
 /// The least number above all variables of the literals.
-fn above_literals(literals: &[Literal]) -> Result<u64, NoMemory>
+///
+/// Where that passes `u64::MAX`, the answer is `NoMemory`.
+pub fn above_literals(literals: &[Literal]) -> Result<u64, NoMemory>
     ensures { IfOk result (λ n. n ≡ above_all (clause_variables literals.now)) }
 {
     let mut n = 0;

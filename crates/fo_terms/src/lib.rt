@@ -14,6 +14,7 @@ pub use clause::Clause;
 pub use formula::FoFormula;
 pub use laws::{have_one_normal_form, normal_form_stays};
 pub use literal::Literal;
+pub use normal::lasting_variables;
 pub use term::{FoTerm, copy_all, same_all, weight_all};
 
 #[cfg(test)]

@@ -156,6 +156,14 @@ fn variables(alloc: Global, literals: &[&Literal]) -> Result<Rows<u64>, NoMemory
     Ok(seen)
 }
 
+/// The variables of the literals that the normal form keeps, in the order in which it numbers them.
+pub fn lasting_variables(alloc: Global, literals: &[Literal]) -> Result<Rows<u64>, NoMemory>
+    ensures { IfOk result (λ seen. seen ≡ firsts ◌==◌ (clause_variables (lasting literals.now))) }
+{
+    let kept = lasting_of(alloc, literals)?;
+    variables(alloc, kept.as_slice())
+}
+
 /// The first place of the number, or the list's length.
 fn place(seen: &[u64], x: u64) -> u64
     ensures { result ≡ place_of x seen.now }

@@ -33,7 +33,7 @@ in_turn_more : (bs : List Binding) (b : Binding) (t : Term) → in_turn (bs ++ b
 in_turn_more [] b t = refl
 in_turn_more (c ∷ bs) b t = in_turn_more bs b (put_one c t)
 
-image_twice : (f g h : Term → Term) (s : TermSet) → ((x : Term) → h x ≡ g (f x)) → image g (image f s) ≡ image h s
+pub image_twice : (f g h : Term → Term) (s : TermSet) → ((x : Term) → h x ≡ g (f x)) → image g (image f s) ≡ image h s
 image_twice f g h s same =
     same_members (image g (image f s)) (image h s)
     (λ y k. let outer = holds_image g (image f s) y k in let inner = holds_image f s outer.0 outer.1.0 in

@@ -1,0 +1,5 @@
+pub mod Answered
+pub mod Passes
+pub mod Gathered
+pub mod OwnTyped
+pub mod Instances

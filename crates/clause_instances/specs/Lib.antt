@@ -1,0 +1,4 @@
+pub mod AtOnce
+pub mod Images
+pub mod Theorems
+pub mod inner

@@ -1,0 +1,13 @@
+pub mod Identities
+pub mod Drops
+pub mod Members
+pub mod Joins
+pub mod Unifiers
+pub mod Singles
+pub mod LandedAs
+pub mod PairsJoin
+pub mod PathsSame
+pub mod PairRules
+pub mod Readying
+pub mod Marking
+pub mod Upto

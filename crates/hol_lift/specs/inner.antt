@@ -1,0 +1,5 @@
+pub mod Typed
+pub mod Unifying
+pub mod Places
+pub mod Pairs
+pub mod Lifting
