@@ -21,18 +21,16 @@ pub enum Outcome {
     Spent,
 }
 
-/// The clauses of the named facts by the facts' numbers.
+/// The clauses of the named facts, each with the fact's number.
 fn named_clauses<'f>(
     alloc: Global,
-    clauses: &'f [Rows<Lit>],
     named: &[u32],
+    clauses: &'f [Rows<Lit>],
 ) -> Result<Vec<(u32, &'f [Lit])>, NoMemory> {
     let mut out = Vec::new(alloc);
-    for number in named {
-        if let Some(clause) = clauses.get(*number as usize) {
-            if out.push((*number, clause.as_slice())).is_err() {
-                return Err(NoMemory);
-            }
+    for (number, clause) in named.iter().zip(clauses) {
+        if out.push((*number, clause.as_slice())).is_err() {
+            return Err(NoMemory);
         }
     }
     Ok(out)
@@ -93,23 +91,24 @@ fn found(
     }
 }
 
-/// Searches for a proof of a goal from the named facts.
+/// Searches for a proof of a goal from the named facts, by at most `budget` picks.
 ///
-/// `clauses` are those of the environment's facts, by their numbers, and `goal` is that of its goal. Nothing rests on that: where they
+/// `clauses` are those of the named facts, in their order, and `goal` is that of the environment's goal. Nothing rests on that: where they
 /// are others, a proof that comes out is one of the environment's goal all the same, since the kernel checks each step.
 pub fn prove(
     alloc: Global,
     env: &Env,
-    clauses: &[Rows<Lit>],
     named: &[u32],
+    clauses: &[Rows<Lit>],
     goal: &[Lit],
+    budget: u32,
 ) -> Result<Outcome, NoMemory>
     // A proof is one in the kernel, from no facts but the named ones.
     ensures outcome { IfOk result (IsOutcome env.now named.now) }
 {
-    let facts = named_clauses(alloc, clauses, named)?;
+    let facts = named_clauses(alloc, named, clauses)?;
     let inputs = inputs(alloc, facts.as_slice(), goal)?;
-    match search(alloc, inputs.as_slice())? {
+    match search(alloc, inputs.as_slice(), budget)? {
         Ended::Saturated => Ok(Outcome::Saturated),
         Ended::Spent => Ok(Outcome::Spent),
         Ended::Found(lines) => found(alloc, env, facts.as_slice(), named, goal, lines.as_slice()),

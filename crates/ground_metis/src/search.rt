@@ -13,9 +13,6 @@ const MOST_KEPT: usize = 20_000;
 /// The greatest number of literals of a kept clause: each weighs two, and a clause at most 512.
 const MOST_LITERALS: usize = 256;
 
-/// How often a clause is picked at most.
-const BUDGET: u32 = 2_000;
-
 /// How a search ends.
 #[derive(Debug, Drop)]
 pub enum Ended {
@@ -170,7 +167,7 @@ fn infer_all(
     Ok(Offered::Passed)
 }
 
-/// Takes the next clause that waits: the oldest at every fifth pick, else the lightest.
+/// Takes the next clause that waits: the oldest at every fifth pick, counted from 1, else the lightest.
 fn next(kept: &[Line], waiting: &mut Vec<u32>, pick: u32) -> Option<u32> {
     let at = if pick % 5 == 0 {
         0
@@ -213,16 +210,17 @@ fn offer_inputs(
     Ok(Offered::Passed)
 }
 
-/// Picks one clause after another until the search ends.
+/// Picks one clause after another, at most so many, until the search ends.
 fn pick_all(
     alloc: Global,
+    budget: u32,
     kept: &mut Rows<Line>,
     clauses: &mut Clauses,
 ) -> Result<Offered, NoMemory>
     ensures { IfOk result (Leads kept.old kept.new) }
 {
-    for pick in 1..BUDGET + 1 {
-        let Some(given) = next(kept.as_slice(), &mut clauses.waiting, pick) else {
+    for pick in 0..budget {
+        let Some(given) = next(kept.as_slice(), &mut clauses.waiting, pick + 1) else {
             return Ok(Offered::Passed);
         };
         if clauses.active.push(given).is_err() {
@@ -237,9 +235,9 @@ fn pick_all(
     Ok(Offered::Passed)
 }
 
-/// Searches for a refutation of the inputs: the given clause is the lightest that waits, and at every fifth
-/// pick the oldest.
-pub fn search(alloc: Global, inputs: &[Rows<Lit>]) -> Result<Ended, NoMemory>
+/// Searches for a refutation of the inputs by at most `budget` picks: the given clause is the lightest that waits, and
+/// at every fifth pick the oldest.
+pub fn search(alloc: Global, inputs: &[Rows<Lit>], budget: u32) -> Result<Ended, NoMemory>
     ensures { IfOk result (IsEnd inputs.now) }
 {
     let mut kept = Rows::begin(alloc);
@@ -252,7 +250,7 @@ pub fn search(alloc: Global, inputs: &[Rows<Lit>]) -> Result<Ended, NoMemory>
         Offered::Full => return Ok(Ended::Spent),
         _ => {}
     }
-    match pick_all(alloc, &mut kept, &mut clauses)? {
+    match pick_all(alloc, budget, &mut kept, &mut clauses)? {
         Offered::Empty => Ok(Ended::Found(kept)),
         Offered::Full => Ok(Ended::Spent),
         _ if clauses.waiting.is_empty() => Ok(Ended::Saturated),

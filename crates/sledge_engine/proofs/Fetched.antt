@@ -5,7 +5,7 @@ use Rattle.sledge_engine.specs.declared.fetching.Fetch.TheVariants.{Whole, TooLo
 use Rattle.sledge_engine.specs.declared.opening.Opened.{Opened}
 use Rattle.sledge_engine.specs.declared.opening.Opened.TheVariants.{Read, Refused}
 use Rattle.sledge_engine.specs.Files.{Outside, Holds, TheoryRefusal, faulty, most_theory_bytes}
-use Rattle.sledge_engine.specs.Fetches.{IsFetch, IsOpened, IsShort, IsTheoryOf}
+use Rattle.sledge_engine.specs.inner.Fetches.{IsFetch, IsOpened, IsShort, IsTheoryOf}
 
 pub is_short : (o : Outside) (name : List ℕ) (limit : ℕ) (f : Fetch) → IsFetch o name limit f → IsShort limit f
 is_short o name limit (Whole bytes) h = h.short

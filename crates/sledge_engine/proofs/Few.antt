@@ -3,7 +3,7 @@ use Rattle.std.proofs.Common.{ℕ, ◌≡◌, ◌<◌, ◌≤◌, ◌^◌, nat_l
 use Rattle.std.specs.Prelude.{Option}
 use Rattle.std.specs.Option.{option_map_or}
 use Rattle.std.specs.List.{list_all}
-use Rattle.std.proofs.lemmas.List.{length-take, length-map}
+use Rattle.std.proofs.lemmas.List.{length-take}
 use Rattle.std.proofs.lemmas.List.Sums.{AllPass-from_list_all}
 use Rattle.std.proofs.lemmas.Option.{slice_get_within, get_or_from_slice_get}
 use Rattle.std.proofs.lemmas.Bool.Decides.{nat_tests}
@@ -12,10 +12,9 @@ use Rattle.theory_reader.specs.declared.statement.Fact.{Fact}
 use Rattle.theory_reader.specs.declared.statement.Goal.{Goal}
 use Rattle.theory_reader.specs.declared.theory.Theory.{Theory}
 use Rattle.theory_reader.specs.Sound.{seen_from}
-use Rattle.theory_reader.specs.Seen.{seen as facts_seen}
-use Rattle.sledge_engine.specs.Choice.{seen}
+use Rattle.theory_reader.specs.Seen.{seen}
 
-passes : {X : Type 0} (p : X → Bool) (xs : List X) (n : ℕ) (x : X) → IsTrue (list_all p xs) → slice_get xs n ≡ Some x → IsTrue (p x)
+pub passes : {X : Type 0} (p : X → Bool) (xs : List X) (n : ℕ) (x : X) → IsTrue (list_all p xs) → slice_get xs n ≡ Some x → IsTrue (p x)
 passes p xs n x all is =
     subst (λ y. IsTrue (p y)) (get_or_from_slice_get xs n x x is) (AllPass-from_list_all p xs all n x (slice_get_within xs n x is))
 
@@ -38,5 +37,4 @@ few_seen t goal =
     let both = both_true facts assumed t.limits_hold in
     let all = seen_of t.facts (slice_get t.goals goal) (within (length t.facts) 20000 both.0)
     (λ g is. within (length g.assumes) 64 (passes (λ h. nat_le (length h.assumes) 64) t.goals goal g both.1 is)) in
-    let same = length-map (facts_seen t goal) (λ f. f.name) in
-    omega (arith, all, same)
+    omega (arith, all)

@@ -1,10 +1,12 @@
 mod Asking
-mod Counts
 mod Fetched
 mod Few
+mod Fitted
+mod InRange
 mod Marking
-mod Options
+mod Presence
 mod Replying
+mod Slicing
 mod Sooner
 mod Lookups
 mod Visibility

@@ -1,16 +1,17 @@
 -- Tables of names.
-use Rattle.std.proofs.Common.{ℕ, ◌≡◌, ◌∙◌, ◌+◌, ◌<◌, Bool, true, false, List, [], ◌∷◌, ◌++◌, length, take, map, get_or, refl, sym, ap, subst}
-use Rattle.std.specs.Prelude.{Option, Some, None, is_some, option_map, filter, IsTrue}
+use Rattle.std.proofs.Common.{ℕ, ◌≡◌, ◌∙◌, ◌+◌, ◌<◌, Bool, true, false, List, [], ◌∷◌, ◌++◌, length, take, map, get_or, refl, sym, ap}
+use Rattle.std.specs.Prelude.{Option, Some, None, is_some, option_map, filter}
 use Rattle.std.specs.List.{list_any, position}
 use Rattle.std.specs.Prelude.{◌||◌}
 use Rattle.std.specs.Str.{bytes_eq}
 use Rattle.std.proofs.lemmas.List.{take_more, map-append}
 use Rattle.std.proofs.lemmas.List.Folds.{list_any-append}
 use Rattle.std.proofs.lemmas.Slice.Eq.{bytes_eq-Decides}
+use Rattle.theory_reader.specs.declared.statement.Fact.{Fact}
 use Rattle.theory_terms.specs.Words.{place}
 use Rattle.theory_terms.proofs.Places.{at_first, at_rest}
-use Rattle.sledge_engine.specs.Choice.{is_named, places_from, AllNamed, IsFirstOther}
-use Rattle.sledge_engine.specs.Lookups.{Finds, Adds}
+use Rattle.sledge_engine.specs.Choice.{has_name, is_named, places_from}
+use Rattle.sledge_engine.specs.inner.Lookups.{Finds, Adds}
 
 is_some_map : {X Y : Type 0} (f : X → Y) (o : Option X) → is_some (option_map f o) ≡ is_some o
 is_some_map f None = refl
@@ -62,17 +63,10 @@ finds_more f words i w old new lt is found adds x =
 
 module _ (names table : List (List ℕ)) (found : Finds names table) where
   -- what is asked of the table is asked of the names
-  pub same_places : (i : ℕ) (there : List (List ℕ)) → places_from i table there ≡ places_from i names there
+  pub same_places : (i : ℕ) (facts : List Fact) → places_from i (has_name table) facts ≡ places_from i (has_name names) facts
   same_places i [] = refl
-  same_places i (x ∷ there) = rw (found x, same_places (i + 1) there)
+  same_places i (f ∷ facts) = rw (found f.name, same_places (i + 1) facts)
 
-  pub same_filter : (there : List (List ℕ)) → filter (is_named table) there ≡ filter (is_named names) there
-  same_filter [] = refl
-  same_filter (x ∷ there) = rw (found x, same_filter there)
-
-  pub same_all : (words : List (List ℕ)) → AllNamed table words → AllNamed names words
-  same_all words all i d lt = subst IsTrue (found (get_or words i d)) (all i d lt)
-
-  pub same_other : (words : List (List ℕ)) (w : List ℕ) → IsFirstOther table words w → IsFirstOther names words w
-  same_other words w first =
-      record { before = first.before; rest = first.rest; is = first.is; named = same_all first.before first.named; other = sym (found w) ∙ first.other }
+  pub same_named : (facts : List Fact) → filter (has_name table) facts ≡ filter (has_name names) facts
+  same_named [] = refl
+  same_named (f ∷ facts) = rw (found f.name, same_named facts)

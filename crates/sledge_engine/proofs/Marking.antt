@@ -9,7 +9,7 @@ use Rattle.std.proofs.lemmas.List.Folds.{list_any-append}
 use Rattle.std.proofs.lemmas.Bool.Decides.{eqb_tells}
 use Rattle.kernel_rules.specs.declared.step.Step.{Step}
 use Rattle.kernel_rules.specs.Derivations.{leaf, leaves}
-use Rattle.sledge_engine.specs.Marks.{Marks}
+use Rattle.sledge_engine.specs.inner.Marks.{Marks}
 use Rattle.sledge_engine.specs.Used.{is_listed}
 
 -- no number is marked

@@ -5,7 +5,7 @@ use Rattle.std.specs.Result.{IfOk}
 use Rattle.text_kit.specs.declared.NoMemory.{NoMemory}
 use Rattle.sledge_engine.specs.Files.{Outside}
 use Rattle.sledge_engine.specs.Replies.{Told, Reply, Answered, told, cut_off}
-use Rattle.sledge_engine.specs.Sinking.{IsPut, whole, part}
+use Rattle.sledge_engine.specs.inner.Sinking.{IsPut, whole, part}
 
 pub if_ok_map : {T E : Type 0} (r : Result T E) (P Q : T → Type 0) → ((x : T) → P x → Q x) → IfOk r P → IfOk r Q
 if_ok_map (Ok x) P Q f h = f x h

@@ -4,9 +4,9 @@ use Rattle.std.specs.Prelude.{Option}
 use Rattle.race_outside.specs.Causes.{Rose}
 use Rattle.race_outside.specs.Shelves.{Files}
 use Rattle.theory_reader.specs.declared.theory.Theory.{Theory}
-use Rattle.sledge_engine.specs.Fetches.{outside}
+use Rattle.sledge_engine.specs.inner.Fetches.{outside}
 use Rattle.sledge_engine.specs.Files.{FileRefusal, no_file, long_file}
-use Rattle.sledge_engine.specs.Replies.{ProofFileReply, no_proof, proof}
+use Rattle.sledge_engine.specs.Check.{ProofFileReply, no_proof, proof}
 
 least : (a b k d : ℕ) → a ≤ b → min (b + 1) k ≤ d → min (a + 1) k ≤ d
 least a b k d le h = omega (arith, le, h)

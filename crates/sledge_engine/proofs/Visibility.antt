@@ -10,21 +10,20 @@ one P x p zero d k = p
 one P x p (suc i) d k = absurd (omega (arith, k))
 
 -- one more word has the property
-pub all_more : {X Y : Type 0} (f : X → Y) (P : Y → Type 0) (ws : List X) (i : ℕ) (w : X) → i < length ws → w ≡ get_or ws i w →
-    All P (map f (take i ws)) → P (f w) → All P (map f (take (i + 1) ws))
-all_more f P ws i w lt is all p =
-    let longer = take_more ws i w lt ∙ ap (λ x. take i ws ++ x ∷ []) (sym is) in
-    subst (λ ts. All P (map f ts)) (sym longer)
-    (subst (All P) (sym (map-append f (take i ws) (w ∷ []))) (All-append P (map f (take i ws)) (f w ∷ []) all (one P (f w) p)))
+pub all_more : {X Y : Type 0} (f : X → Y) (P : Y → Type 0) (ws : List X) (i : ℕ) (d : X) → i < length ws → All P (map f (take i ws)) → P (f (get_or ws i d)) →
+    All P (map f (take (i + 1) ws))
+all_more f P ws i d lt all p =
+    subst (λ ts. All P (map f ts)) (sym (take_more ws i d lt))
+    (subst (All P) (sym (map-append f (take i ws) (get_or ws i d ∷ [])))
+    (All-append P (map f (take i ws)) (f (get_or ws i d) ∷ []) all (one P (f (get_or ws i d)) p)))
 
 -- the words are those before a place, the one there, and the rest
-split_words : {X Y : Type 0} (f : X → Y) (ws : List X) (i : ℕ) (w : X) → i < length ws → w ≡ get_or ws i w →
-    map f ws ≡ map f (take i ws) ++ f w ∷ map f (drop (i + 1) ws)
-split_words f ws i w lt is =
-    ap (map f) (sym (take-append-drop i ws)) ∙ map-append f (take i ws) (drop i ws)
-    ∙ ap (λ ts. map f (take i ws) ++ map f ts) (drop_more ws i w lt ∙ ap (λ x. x ∷ drop (i + 1) ws) (sym is))
+split_words : {X Y : Type 0} (f : X → Y) (ws : List X) (i : ℕ) (d : X) → i < length ws →
+    map f ws ≡ map f (take i ws) ++ f (get_or ws i d) ∷ map f (drop (i + 1) ws)
+split_words f ws i d lt =
+    ap (map f) (sym (take-append-drop i ws)) ∙ map-append f (take i ws) (drop i ws) ∙ ap (λ ts. map f (take i ws) ++ map f ts) (drop_more ws i d lt)
 
-pub first_other_at : {X : Type 0} (f : X → List ℕ) (there : List (List ℕ)) (ws : List X) (i : ℕ) (w : X) → i < length ws → w ≡ get_or ws i w →
-    AllNamed there (map f (take i ws)) → is_named there (f w) ≡ false → IsFirstOther there (map f ws) (f w)
-first_other_at f there ws i w lt is all other =
-    record { before = map f (take i ws); rest = map f (drop (i + 1) ws); is = split_words f ws i w lt is; named = all; other = other }
+pub first_other_at : {X : Type 0} (f : X → List ℕ) (there : List (List ℕ)) (ws : List X) (i : ℕ) (d : X) → i < length ws →
+    AllNamed there (map f (take i ws)) → is_named there (f (get_or ws i d)) ≡ false → IsFirstOther there (map f ws) (f (get_or ws i d))
+first_other_at f there ws i d lt all other =
+    record { before = map f (take i ws); rest = map f (drop (i + 1) ws); is = split_words f ws i d lt; named = all; other = other }

@@ -6,6 +6,10 @@ use Rattle.theory_terms.specs.declared.fault.TheoryKind.TheVariants as kind
 use Rattle.theory_terms.specs.declared.fault.TheoryFault.{TheoryFault}
 use Rattle.theory_terms.specs.declared.fault.TheoryFault.TheVariants as fault
 
+-- the reply is this status and this text
+abbrev pub Is : ℕ → List ℕ → ℕ → List ℕ → Type 0
+Is status text s t = (s ≡ status) × (t ≡ text)
+
 -- a text round a name
 abbrev pub around : List ℕ → List ℕ → List ℕ → List ℕ
 around before name after = before ++ name ++ after
@@ -45,6 +49,9 @@ not_built_text name = around (codes "fault: ") name (codes " not built\n")
 
 abbrev pub goal_text : List ℕ → List ℕ
 goal_text name = around (codes "fault: goal ") name (codes "\n")
+
+abbrev pub large_goal_text : List ℕ → List ℕ
+large_goal_text name = around (codes "fault: goal ") name (codes " too large\n")
 
 abbrev pub fact_text : List ℕ → List ℕ
 fact_text name = around (codes "fault: fact ") name (codes "\n")

@@ -4,7 +4,8 @@ use Rattle.std.specs.List.{list_any}
 use Rattle.kernel_rules.specs.declared.step.Step.{Step}
 use Rattle.kernel_rules.specs.Derivations.{leaves}
 use Rattle.theory_reader.specs.declared.theory.Theory.{Theory}
-use Rattle.sledge_engine.specs.Choice.{seen}
+use Rattle.theory_reader.specs.Sound.{fact_names}
+use Rattle.theory_reader.specs.Seen.{seen}
 
 -- the number is one of these
 abbrev pub is_listed : List ℕ → ℕ → Bool
@@ -17,4 +18,4 @@ listed_from i numbers (name ∷ names) = if is_listed numbers i then name ∷ li
 
 -- the names of the facts of fact steps, each once, in file order
 abbrev pub used_names : Theory → ℕ → List Step → List (List ℕ)
-used_names t goal steps = listed_from 0 (leaves steps) (seen t goal)
+used_names t goal steps = listed_from 0 (leaves steps) (fact_names (seen t goal))

@@ -1,100 +1,83 @@
-ghost use Rattle.std.specs.Prelude.{◌≡◌, ◌<◌, ◌++◌, ◌^◌, [], ◌∷◌, if◌then◌else◌, filter, length, map, string_bytes, IfOk, OnOk, MatchOption};
-ghost use Rattle.sledge_engine.specs.Choice.{is_named, places_from, AllNamed, IsFirstOther};
+ghost use Rattle.std.specs.Prelude.{◌≡◌, ◌<◌, ◌++◌, ◌^◌, [], ◌∷◌, if◌then◌else◌, length, map, IfOk, OnOk};
+ghost use Rattle.theory_reader.specs.Sound.{fact_names};
 ghost use Rattle.sledge_engine.specs.Texts.{spaced};
+ghost use Rattle.sledge_engine.specs.inner.Asked.{AreChosen};
 
-use crate::tables::{is_in, table_of_names, table_of_words};
+use crate::tables::{is_in, table_of};
 use std::alloc::Global;
 use text_kit::{Bytes, NoMemory, Rows};
+use theory_reader::Fact;
 use theory_terms::Names;
 
-/// Appends a number where it is asked for.
-fn push_if(out: &mut Rows<u32>, asked: bool, number: u32) -> Result<(), NoMemory>
-    ensures { OnOk result (out.new ≡ out.old ++ (if asked then number ∷ [] else [])) }
-{
-    if asked { out.push(number) } else { Ok(()) }
+/// Facts with their numbers, in file order.
+#[derive(Drop)]
+pub(crate) struct Chosen<'t> {
+    pub numbers: Rows<u32>,
+    pub facts: Vec<&'t Fact>,
 }
 
-/// The places of the names that are in the table.
-fn choose_from(alloc: Global, names: &[&[u8]], table: &Names) -> Result<Rows<u32>, NoMemory>
-    requires { length names.now < 2 ^ 32 }
-    ensures { IfOk result (λ out. out ≡ places_from 0 table.now (map (λ n. n.now) names.now)) }
-{
-    let mut out = Rows::begin(alloc);
-    for i in 0..names.len() {
-        push_if(&mut out, is_in(table, names[i]), i as u32)?;
-    }
-    Ok(out)
-}
-
-/// The places of the names that are among the words.
-pub(crate) fn choose(
-    alloc: Global,
-    names: &[&[u8]],
-    words: &[String],
-) -> Result<Rows<u32>, NoMemory>
-    requires { length names.now < 2 ^ 32 }
-    ensures { IfOk result (λ out. out ≡ places_from 0 (map string_bytes words.now) (map (λ n. n.now) names.now)) }
-{
-    let table = table_of_words(alloc, words)?;
-    choose_from(alloc, names, &table)
-}
-
-/// Appends a space and a name where it is asked for.
-pub(crate) fn put_if(out: &mut Bytes, asked: bool, name: &[u8]) -> Result<(), NoMemory>
-    ensures { OnOk result (out.new ≡ out.old ++ (if asked then 32 ∷ name.now else [])) }
+/// Appends a fact with its number where it is asked for.
+fn push_if<'t>(
+    chosen: &mut Chosen<'t>,
+    asked: bool,
+    number: u32,
+    fact: &'t Fact,
+) -> Result<(), NoMemory>
+    ensures numbers { OnOk result (chosen.new.numbers ≡ chosen.old.numbers ++ (if asked then number ∷ [] else [])) }
+    ensures facts { OnOk result (map (λ f. f.now) chosen.new.facts.items ≡ map (λ f. f.now) chosen.old.facts.items ++ (if asked then fact.now ∷ [] else [])) }
 {
     if asked {
-        out.push(b' ')?;
-        out.append(name)
-    } else {
-        Ok(())
-    }
-}
-
-/// Appends a space and a name for each that is in the table.
-fn put_from(out: &mut Bytes, names: &[&[u8]], table: &Names) -> Result<(), NoMemory>
-    ensures { OnOk result (out.new ≡ out.old ++ spaced (filter (is_named table.now) (map (λ n. n.now) names.now))) }
-{
-    for name in names {
-        put_if(out, is_in(table, *name), *name)?;
+        chosen.numbers.push(number)?;
+        if chosen.facts.push(fact).is_err() {
+            return Err(NoMemory);
+        }
     }
     Ok(())
 }
 
-/// Appends a space and a name for each that is among the words.
-pub(crate) fn put_names(
-    alloc: Global,
-    out: &mut Bytes,
-    names: &[&[u8]],
-    words: &[String],
-) -> Result<(), NoMemory>
-    ensures { OnOk result (out.new ≡ out.old ++ spaced (filter (is_named (map string_bytes words.now)) (map (λ n. n.now) names.now))) }
+/// The facts whose names are in the table.
+fn choose_from<'t>(alloc: Global, facts: &[&'t Fact], table: &Names) -> Result<Chosen<'t>, NoMemory>
+    requires { length facts.now < 2 ^ 32 }
+    ensures { IfOk result (AreChosen table.now (map (λ f. f.now) facts.now)) }
 {
-    let table = table_of_words(alloc, words)?;
-    put_from(out, names, &table)
-}
-
-/// The first word that isn't in the table.
-fn first_outside<'w>(table: &Names, words: &'w [String]) -> Option<&'w str>
-    ensures { MatchOption result (AllNamed table.now (map string_bytes words.now)) (λ w. IsFirstOther table.now (map string_bytes words.now) w.now) }
-{
-    for i in 0..words.len() {
-        let word = words[i].as_str();
-        if !is_in(table, word.as_bytes()) {
-            return Some(word);
-        }
+    let mut chosen = Chosen {
+        numbers: Rows::begin(alloc),
+        facts: Vec::new(alloc),
+    };
+    for i in 0..facts.len() {
+        let asked = is_in(table, facts[i].name.as_slice());
+        push_if(&mut chosen, asked, i as u32, facts[i])?;
     }
-    None
+    Ok(chosen)
 }
 
-/// The first word that isn't one of the names.
-pub(crate) fn first_other_word<'w>(
+/// The facts whose names are among the words.
+pub(crate) fn choose<'t>(
     alloc: Global,
-    names: &[&[u8]],
-    words: &'w [String],
-) -> Result<Option<&'w str>, NoMemory>
-    ensures { IfOk result (λ o. MatchOption o (AllNamed (map (λ n. n.now) names.now) (map string_bytes words.now)) (λ w. IsFirstOther (map (λ n. n.now) names.now) (map string_bytes words.now) w.now)) }
+    facts: &[&'t Fact],
+    words: &[&str],
+) -> Result<Chosen<'t>, NoMemory>
+    requires { length facts.now < 2 ^ 32 }
+    ensures { IfOk result (AreChosen (map (λ w. w.now) words.now) (map (λ f. f.now) facts.now)) }
 {
-    let table = table_of_names(alloc, names)?;
-    Ok(first_outside(&table, words))
+    let table = table_of(alloc, words)?;
+    choose_from(alloc, facts, &table)
+}
+
+/// Appends a space and a name.
+pub(crate) fn put_name(out: &mut Bytes, name: &[u8]) -> Result<(), NoMemory>
+    ensures { OnOk result (out.new ≡ out.old ++ 32 ∷ name.now) }
+{
+    out.push(b' ')?;
+    out.append(name)
+}
+
+/// Appends a space and the name of each fact.
+pub(crate) fn put_names(out: &mut Bytes, facts: &[&Fact]) -> Result<(), NoMemory>
+    ensures { OnOk result (out.new ≡ out.old ++ spaced (fact_names (map (λ f. f.now) facts.now))) }
+{
+    for fact in facts {
+        put_name(out, fact.name.as_slice())?;
+    }
+    Ok(())
 }

@@ -1,5 +1,5 @@
 ghost use Rattle.std.specs.Prelude.{◌≡◌, ◌<◌, ◌≤◌, ◌^◌, IfOk};
-ghost use Rattle.sledge_engine.specs.Fetches.{IsFetch, IsWithin, outside};
+ghost use Rattle.sledge_engine.specs.inner.Fetches.{IsFetch, IsWithin, outside};
 
 use race_outside::{FetchFault, Shelf};
 use std::alloc::Global;

@@ -1,24 +1,29 @@
-ghost use Rattle.std.specs.Prelude.{◌≡◌, ◌<◌, ◌^◌, ◌++◌, [], length, IfOk, OnOk, IsTrue, None, map, string_bytes, slice_get, Some};
+ghost use Rattle.std.specs.Prelude.{◌≡◌, ◌<◌, ◌++◌, [], length, IfOk, OnOk, None, map};
+ghost use Rattle.theory_reader.specs.Sound.{fact_names};
 ghost use Rattle.theory_reader.specs.Seen.{IsEnvOf};
-ghost use Rattle.ground_metis.specs.Formulas.{is_clause as is_one};
-ghost use Rattle.sledge_engine.specs.Asked.{IsAsked, IsFound, said};
-ghost use Rattle.sledge_engine.specs.Built.{first_other as first_no_clause, IsBuilt};
-ghost use Rattle.sledge_engine.specs.Choice.{AllVisible, chosen_names};
-ghost use Rattle.sledge_engine.specs.Replies.{GoalReply, ReadReply, shown};
-ghost use Rattle.sledge_engine.specs.Shown.{metis_shown};
+ghost use Rattle.sledge_engine.specs.Built.{first_other, IsBuilt};
+ghost use Rattle.sledge_engine.specs.Choice.{AllVisible, chosen_facts};
+ghost use Rattle.sledge_engine.specs.Metis.{GoalReply, MetisReply, shown};
 ghost use Rattle.sledge_engine.specs.Texts.{metis_text};
+ghost use Rattle.sledge_engine.specs.inner.Asked.{AreChosen, AreFormed, IsAsked, IsFound, said};
+ghost use Rattle.sledge_engine.specs.inner.Fetches.{outside};
+ghost use Rattle.sledge_engine.specs.inner.Shown.{metis_shown};
+ghost use Rattle.theory_reader.specs.Seen.{seen};
 
-use crate::choice::{choose, first_other_word, put_names};
-use crate::seen::{clauses_of, first_other, name_at, seen_names};
+use crate::choice::{Chosen, choose, put_names};
+use crate::posing::{Posed, open_goal};
+use crate::seen::seen_facts;
 use crate::texts::put_refusal;
+use crate::visible::first_hidden;
 use crate::words::MetisLine;
-use ground_metis::{Lit, Outcome, is_clause, prove, read_clause};
+use ground_metis::{Lit, Outcome, prove, read_clause};
 use hol_terms::Env;
 use kernel_rules::Step;
 use proof_text::print_proof;
+use race_outside::Shelf;
 use std::alloc::Global;
 use text_kit::{Bytes, NoMemory, Rows};
-use theory_reader::Theory;
+use theory_reader::{Fact, Theory};
 
 /// A goal of a theory with what it may be proved from, and the facts that are named.
 #[derive(Clone, Copy, Drop)]
@@ -26,11 +31,34 @@ struct Asked<'a> {
     theory: &'a Theory,
     goal: u32,
     env: &'a Env,
-    /// The names of the environment's facts, by their numbers.
-    names: &'a [&'a [u8]],
-    words: &'a [String],
+    /// The environment's facts with their names, by their numbers.
+    facts: &'a [&'a Fact],
+    words: &'a [&'a str],
+    /// Picks of the search.
+    budget: u32,
     /// Whether the proof is to be shown.
     shows: bool,
+}
+
+/// The clauses that facts are, or the first fact that is none.
+#[derive(Drop)]
+enum Formed<'t> {
+    Clauses(Rows<Rows<Lit>>),
+    Other(&'t Fact),
+}
+
+/// Reads facts as clauses.
+fn form<'t>(alloc: Global, facts: &[&'t Fact]) -> Result<Formed<'t>, NoMemory>
+    ensures { IfOk result (AreFormed (map (λ f. f.now) facts.now)) }
+{
+    let mut clauses = Rows::begin(alloc);
+    for fact in facts {
+        match read_clause(alloc, &fact.formula)? {
+            Some(clause) => clauses.push(clause)?,
+            None => return Ok(Formed::Other(*fact)),
+        }
+    }
+    Ok(Formed::Clauses(clauses))
 }
 
 /// Appends the text of a proof where it is to be shown.
@@ -51,29 +79,21 @@ fn put_shown(
     }
 }
 
-/// Appends the report of a proof.
-fn put_report(alloc: Global, asked: &Asked, text: &mut Bytes) -> Result<(), NoMemory>
-    requires asked { IsAsked asked.now }
-    requires text { text.old ≡ [] }
-    ensures { OnOk result (text.new ≡ metis_text (chosen_names (said asked.now) asked.now.theory.now asked.now.goal)) }
-{
-    text.append(b"proof: by metis")?;
-    put_names(alloc, text, asked.names, asked.words)?;
-    text.append(b"\n")
-}
-
-/// Puts the report of a proof that was found, and the proof where it is to be shown.
+/// Puts the report of a proof from these facts, and the proof where it is to be shown.
 fn put_proved(
     alloc: Global,
     asked: &Asked,
+    facts: &[&Fact],
     steps: &Rows<Step>,
     text: &mut Bytes,
 ) -> Result<u8, NoMemory>
-    requires asked { IsAsked asked.now }
+    requires goal { asked.now.goal < length asked.now.theory.now.goals }
     requires text { text.old ≡ [] }
-    ensures { IfOk result (λ status. (status ≡ 0) × (text.new ≡ metis_text (chosen_names (said asked.now) asked.now.theory.now asked.now.goal) ++ shown asked.now.shows asked.now.theory.now asked.now.goal steps.now)) }
+    ensures { IfOk result (λ status. (status ≡ 0) × (text.new ≡ metis_text (fact_names (map (λ f. f.now) facts.now)) ++ shown asked.now.shows asked.now.theory.now asked.now.goal steps.now)) }
 {
-    put_report(alloc, asked, text)?;
+    text.append(b"proof: by metis")?;
+    put_names(text, facts)?;
+    text.append(b"\n")?;
     put_shown(alloc, asked, steps, text)?;
     Ok(0)
 }
@@ -87,76 +107,57 @@ fn put_unproved(text: &mut Bytes, piece: &[u8]) -> Result<u8, NoMemory>
     Ok(1)
 }
 
-/// Searches for a proof from the named facts.
-fn search(alloc: Global, asked: &Asked, goal: &[Lit]) -> Result<Outcome, NoMemory>
+/// Reports how the search for a proof from the chosen facts ended.
+fn report(
+    alloc: Global,
+    asked: &Asked,
+    chosen: &Chosen,
+    found: &Outcome,
+    text: &mut Bytes,
+) -> Result<u8, NoMemory>
     requires asked { IsAsked asked.now }
-    ensures { IfOk result (IsFound asked.now) }
-{
-    let clauses = clauses_of(alloc, asked.env.facts.as_slice())?;
-    let named = choose(alloc, asked.names, asked.words)?;
-    prove(alloc, asked.env, clauses.as_slice(), named.as_slice(), goal)
-}
-
-/// Reports how the search ended.
-fn report(alloc: Global, asked: &Asked, found: &Outcome, text: &mut Bytes) -> Result<u8, NoMemory>
-    requires asked { IsAsked asked.now }
-    requires built { IsBuilt asked.now.theory.now asked.now.goal }
+    requires chosen { AreChosen (said asked.now) (seen asked.now.theory.now asked.now.goal) chosen.now }
     requires visible { AllVisible asked.now.theory.now asked.now.goal (said asked.now) }
+    requires built { IsBuilt asked.now.theory.now asked.now.goal (said asked.now) }
     requires found { IsFound asked.now found.now }
     requires text { text.old ≡ [] }
     ensures { IfOk result (λ status. GoalReply asked.now.theory.now asked.now.goal (said asked.now) asked.now.shows status text.new) }
 {
     match found {
-        Outcome::Proved(steps) => put_proved(alloc, asked, steps, text),
+        Outcome::Proved(steps) => put_proved(alloc, asked, chosen.facts.as_slice(), steps, text),
         Outcome::Saturated => put_unproved(text, b"proof: not found (saturated)\n"),
         Outcome::Spent => put_unproved(text, b"proof: not found (spent)\n"),
     }
 }
 
-/// Answers where all is built and each named fact is visible.
-fn answer_visible(
+/// Answers where the chosen facts are these clauses.
+fn answer_clauses(
     alloc: Global,
     asked: &Asked,
-    goal: &[Lit],
+    chosen: &Chosen,
+    clauses: &[Rows<Lit>],
     text: &mut Bytes,
 ) -> Result<u8, NoMemory>
     requires asked { IsAsked asked.now }
-    requires built { IsBuilt asked.now.theory.now asked.now.goal }
+    requires chosen { AreChosen (said asked.now) (seen asked.now.theory.now asked.now.goal) chosen.now }
     requires visible { AllVisible asked.now.theory.now asked.now.goal (said asked.now) }
-    requires text { text.old ≡ [] }
-    ensures { IfOk result (λ status. GoalReply asked.now.theory.now asked.now.goal (said asked.now) asked.now.shows status text.new) }
-{
-    let found = search(alloc, asked, goal)?;
-    report(alloc, asked, &found, text)
-}
-
-/// Answers where all is built.
-fn answer_built(
-    alloc: Global,
-    asked: &Asked,
-    goal: &[Lit],
-    text: &mut Bytes,
-) -> Result<u8, NoMemory>
-    requires asked { IsAsked asked.now }
-    requires built { IsBuilt asked.now.theory.now asked.now.goal }
-    requires text { text.old ≡ [] }
-    ensures { IfOk result (λ status. GoalReply asked.now.theory.now asked.now.goal (said asked.now) asked.now.shows status text.new) }
-{
-    match first_other_word(alloc, asked.names, asked.words)? {
-        Some(name) => put_refusal(text, 2, b"fault: fact ", name.as_bytes(), b"\n"),
-        None => answer_visible(alloc, asked, goal, text),
-    }
-}
-
-/// Answers where the facts are clauses.
-fn answer_clauses(alloc: Global, asked: &Asked, text: &mut Bytes) -> Result<u8, NoMemory>
-    requires asked { IsAsked asked.now }
-    requires facts { first_no_clause asked.now.env.now.facts ≡ None }
+    requires built { first_other (chosen_facts (said asked.now) asked.now.theory.now asked.now.goal) ≡ None }
     requires text { text.old ≡ [] }
     ensures { IfOk result (λ status. GoalReply asked.now.theory.now asked.now.goal (said asked.now) asked.now.shows status text.new) }
 {
     match read_clause(alloc, &asked.env.goal)? {
-        Some(goal) => answer_built(alloc, asked, goal.as_slice(), text),
+        Some(goal) => {
+            let numbers = chosen.numbers.as_slice();
+            let found = prove(
+                alloc,
+                asked.env,
+                numbers,
+                clauses,
+                goal.as_slice(),
+                asked.budget,
+            )?;
+            report(alloc, asked, chosen, &found, text)
+        }
         None => {
             let name = asked.theory.goals.at(asked.goal as usize).name.as_slice();
             put_refusal(text, 4, b"fault: ", name, b" not built\n")
@@ -164,26 +165,59 @@ fn answer_clauses(alloc: Global, asked: &Asked, text: &mut Bytes) -> Result<u8, 
     }
 }
 
-/// Answers a goal over its environment and the names of its facts.
+/// Answers where each named fact is visible and these are they.
+fn answer_chosen(
+    alloc: Global,
+    asked: &Asked,
+    chosen: &Chosen,
+    text: &mut Bytes,
+) -> Result<u8, NoMemory>
+    requires asked { IsAsked asked.now }
+    requires chosen { AreChosen (said asked.now) (seen asked.now.theory.now asked.now.goal) chosen.now }
+    requires visible { AllVisible asked.now.theory.now asked.now.goal (said asked.now) }
+    requires text { text.old ≡ [] }
+    ensures { IfOk result (λ status. GoalReply asked.now.theory.now asked.now.goal (said asked.now) asked.now.shows status text.new) }
+{
+    match form(alloc, chosen.facts.as_slice())? {
+        Formed::Clauses(clauses) => {
+            answer_clauses(alloc, asked, chosen, clauses.as_slice(), text)
+        }
+        Formed::Other(fact) => put_refusal(
+            text,
+            4,
+            b"fault: ",
+            fact.name.as_slice(),
+            b" not built\n",
+        ),
+    }
+}
+
+/// Answers where each named fact is visible.
+fn answer_visible(alloc: Global, asked: &Asked, text: &mut Bytes) -> Result<u8, NoMemory>
+    requires asked { IsAsked asked.now }
+    requires visible { AllVisible asked.now.theory.now asked.now.goal (said asked.now) }
+    requires text { text.old ≡ [] }
+    ensures { IfOk result (λ status. GoalReply asked.now.theory.now asked.now.goal (said asked.now) asked.now.shows status text.new) }
+{
+    let chosen = choose(alloc, asked.facts, asked.words)?;
+    answer_chosen(alloc, asked, &chosen, text)
+}
+
+/// Answers a goal over its environment and its facts.
 fn answer_asked(alloc: Global, asked: &Asked, text: &mut Bytes) -> Result<u8, NoMemory>
     requires asked { IsAsked asked.now }
     requires text { text.old ≡ [] }
     ensures { IfOk result (λ status. GoalReply asked.now.theory.now asked.now.goal (said asked.now) asked.now.shows status text.new) }
 {
-    match first_other(asked.env.facts.as_slice()) {
-        Some(k) => put_refusal(
-            text,
-            4,
-            b"fault: ",
-            name_at(asked.names, k),
-            b" not built\n",
-        ),
-        None => answer_clauses(alloc, asked, text),
+    let names = asked.theory.seen_names(alloc, asked.goal)?;
+    match first_hidden(alloc, &names, asked.env, asked.words)? {
+        Some(name) => put_refusal(text, 2, b"fault: fact ", name.as_bytes(), b"\n"),
+        None => answer_visible(alloc, asked, text),
     }
 }
 
 /// Answers a goal over its environment.
-fn answer_env(
+fn answer_goal(
     alloc: Global,
     theory: &Theory,
     goal: u32,
@@ -194,48 +228,33 @@ fn answer_env(
     requires goal { goal < length theory.now.goals }
     requires env { IsEnvOf theory.now goal env.now }
     requires text { text.old ≡ [] }
-    ensures { IfOk result (λ status. GoalReply theory.now goal (map string_bytes line.entry.facts.now) line.entry.shows status text.new) }
+    ensures { IfOk result (λ status. GoalReply theory.now goal (metis_shown line.entry).facts (metis_shown line.entry).shows status text.new) }
 {
-    let names = seen_names(alloc, theory, goal)?;
+    let facts = seen_facts(alloc, theory, goal)?;
     let asked = Asked {
         theory,
         goal,
         env,
-        names: names.as_slice(),
+        facts: facts.as_slice(),
         words: line.facts,
+        budget: line.budget,
         shows: line.shows,
     };
     answer_asked(alloc, &asked, text)
 }
 
-/// Answers a goal of a theory: puts the text and gives the status.
-fn answer_goal(
+/// Answers a line of `metis`: puts the text and gives the status.
+pub(crate) fn answer_metis<H: Shelf>(
     alloc: Global,
-    theory: &Theory,
-    goal: u32,
     line: MetisLine,
-    text: &mut Bytes,
-) -> Result<u8, NoMemory>
-    requires goal { goal < length theory.now.goals }
-    requires text { text.old ≡ [] }
-    ensures { IfOk result (λ status. GoalReply theory.now goal (map string_bytes line.entry.facts.now) line.entry.shows status text.new) }
-{
-    let env = theory.env(alloc, goal)?;
-    answer_env(alloc, theory, goal, &env, line, text)
-}
-
-/// Answers a line over its theory.
-pub(crate) fn answer_metis(
-    alloc: Global,
-    theory: &Theory,
-    line: MetisLine,
+    shelf: &mut H,
     text: &mut Bytes,
 ) -> Result<u8, NoMemory>
     requires { text.old ≡ [] }
-    ensures { IfOk result (λ status. ReadReply theory.now (metis_shown line.entry) status text.new) }
+    ensures { IfOk result (λ status. MetisReply (outside (H.held shelf.old) (H.sure shelf.old) (H.faults shelf.old) (H.faults shelf.new)) (metis_shown line.entry) status text.new) }
 {
-    match theory.goal_named(line.goal.as_bytes()) {
-        None => put_refusal(text, 4, b"fault: goal ", line.goal.as_bytes(), b"\n"),
-        Some(goal) => answer_goal(alloc, theory, goal, line, text),
+    match open_goal(alloc, line.theory, line.goal, shelf, text)? {
+        Posed::Goal(theory, goal, env) => answer_goal(alloc, &theory, goal, &env, line, text),
+        Posed::Refused(status) => Ok(status),
     }
 }

@@ -1,5 +1,5 @@
 ghost use Rattle.std.specs.Prelude.{◌≡◌, ◌<◌, ◌≤◌, ◌^◌, ℕ, [], length, IfOk};
-ghost use Rattle.sledge_engine.specs.Fetches.{IsFetch, IsOpened, IsShort, IsTheoryOf, outside};
+ghost use Rattle.sledge_engine.specs.inner.Fetches.{IsFetch, IsOpened, IsShort, IsTheoryOf, outside};
 ghost use Rattle.sledge_engine.specs.Files.{FileRefusal, Outside, most_theory_bytes};
 
 use crate::fetching::{Fetch, fetch_file};

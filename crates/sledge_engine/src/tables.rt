@@ -1,6 +1,6 @@
-ghost use Rattle.std.specs.Prelude.{◌≡◌, ℕ, List, IfOk, OnOk, map, string_bytes};
+ghost use Rattle.std.specs.Prelude.{◌≡◌, IfOk, OnOk, map};
 ghost use Rattle.sledge_engine.specs.Choice.{is_named};
-ghost use Rattle.sledge_engine.specs.Lookups.{Adds, Finds};
+ghost use Rattle.sledge_engine.specs.inner.Lookups.{Adds, Finds};
 
 use std::alloc::Global;
 use text_kit::NoMemory;
@@ -24,23 +24,12 @@ fn add_new<'n>(table: &mut Names<'n>, name: &'n [u8]) -> Result<(), NoMemory>
 }
 
 /// A table of words.
-pub(crate) fn table_of_words(alloc: Global, words: &[String]) -> Result<Names<'_>, NoMemory>
-    ensures { IfOk result (Finds (map string_bytes words.now)) }
+pub(crate) fn table_of<'w>(alloc: Global, words: &[&'w str]) -> Result<Names<'w>, NoMemory>
+    ensures { IfOk result (Finds (map (λ w. w.now) words.now)) }
 {
     let mut table = Names::begin(alloc);
     for word in words {
-        add_new(&mut table, word.as_bytes())?;
-    }
-    Ok(table)
-}
-
-/// A table of names.
-pub(crate) fn table_of_names<'n>(alloc: Global, names: &[&'n [u8]]) -> Result<Names<'n>, NoMemory>
-    ensures { IfOk result (Finds (map (λ n. n.now) names.now)) }
-{
-    let mut table = Names::begin(alloc);
-    for name in names {
-        add_new(&mut table, *name)?;
+        add_new(&mut table, (*word).as_bytes())?;
     }
     Ok(table)
 }

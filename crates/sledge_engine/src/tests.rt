@@ -8,6 +8,20 @@ use text_kit::{Bytes, NoMemory, Rows};
 const IMPLIED: &[u8] =
     b"const p : bool; const q : bool; fact f1 : p; fact f2 : ~p | q; goal g : q;";
 
+/// Facts of 64 clauses and of 65, a goal of one clause, and one whose denial has 65.
+const LARGE: &[u8] =
+    b"const p1 : bool; const p2 : bool; const p3 : bool; const p4 : bool; const p5 : bool; const p6 : bool; const p7 : bool; const p8 : bool;
+const q1 : bool; const q2 : bool; const q3 : bool; const q4 : bool; const q5 : bool; const q6 : bool; const q7 : bool; const q8 : bool; const r : bool;
+fact big : (p1 & p2 & p3 & p4 & p5 & p6 & p7 & p8) | (q1 & q2 & q3 & q4 & q5 & q6 & q7 & q8);
+fact huge : ((p1 & p2 & p3 & p4 & p5 & p6 & p7 & p8) | (q1 & q2 & q3 & q4 & q5 & q6 & q7 & q8)) & r;
+goal g : r;
+goal k : (p1 | p2 | p3 | p4 | p5 | p6 | p7 | p8) & (q1 | q2 | q3 | q4 | q5 | q6 | q7 | q8) | r;";
+
+/// Four facts that are as relevant as each other.
+const EQUALS: &[u8] =
+    b"const p : bool; const q : bool; const r : bool; const s : bool; const t : bool;
+fact a : p & q; fact b : p & r; fact c : p & s; fact d : p & t; goal g : p;";
+
 fn words(alloc: Global, line: &[&str]) -> Result<Vec<String>, NoMemory> {
     let mut words = Vec::new(alloc);
     for word in line {
@@ -83,10 +97,22 @@ struct Case<'a> {
     text: &'a [u8],
 }
 
-const CASES: [Case; 25] = [
+const CASES: [Case; 36] = [
     Case {
         theory: IMPLIED,
         line: &["metis", "T", "g", "f1", "f2"],
+        status: 0,
+        text: b"proof: by metis f1 f2\n",
+    },
+    Case {
+        theory: IMPLIED,
+        line: &["metis", "T", "g", "f1", "f2", "--budget", "3"],
+        status: 1,
+        text: b"proof: not found (spent)\n",
+    },
+    Case {
+        theory: IMPLIED,
+        line: &["metis", "--budget=4", "T", "g", "f2", "f1", "f2"],
         status: 0,
         text: b"proof: by metis f1 f2\n",
     },
@@ -109,14 +135,14 @@ const CASES: [Case; 25] = [
         text: b"proof: by metis f h\n",
     },
     Case {
-        theory: b"const p : bool; const q : bool; fact f : ~p | q; goal g : q assume h : p; goal k : q;",
+        theory: b"const p : bool; const q : bool; fact f : p ==> q; goal g : q assume h : p; goal k : q;",
         line: &["metis", "T", "k", "f", "h"],
         status: 2,
         text: b"fault: fact h\n",
     },
     Case {
-        theory: b"const p : bool; goal g : p;",
-        line: &["metis", "T", "g"],
+        theory: b"const p : bool; fact n : p & p; goal g : p;",
+        line: &["metis", "T", "g", "--proof"],
         status: 1,
         text: b"proof: not found (saturated)\n",
     },
@@ -139,8 +165,8 @@ const CASES: [Case; 25] = [
         text: b"fault: theory at 30: ill typed\n",
     },
     Case {
-        theory: b"const p : bool; fact f : p & p; goal g : p;",
-        line: &["metis", "T", "g"],
+        theory: b"const p : bool; fact e : p & p; fact f : p & p; goal g : p & p;",
+        line: &["metis", "T", "g", "f"],
         status: 4,
         text: b"fault: f not built\n",
     },
@@ -158,7 +184,7 @@ const CASES: [Case; 25] = [
     },
     Case {
         theory: IMPLIED,
-        line: &["metis", "T"],
+        line: &["metis", "TB"],
         status: 2,
         text: b"fault: usage\n",
     },
@@ -182,19 +208,13 @@ const CASES: [Case; 25] = [
     },
     Case {
         theory: IMPLIED,
-        line: &["metis", "--proof", "T", "g"],
+        line: &["prove", "T", "g"],
         status: 2,
         text: b"fault: usage\n",
     },
     Case {
         theory: IMPLIED,
-        line: &["metis", "T", "g", "f1", "--proof", "f2"],
-        status: 2,
-        text: b"fault: usage\n",
-    },
-    Case {
-        theory: IMPLIED,
-        line: &["check", "T"],
+        line: &["model", "T", "g"],
         status: 2,
         text: b"fault: usage\n",
     },
@@ -206,19 +226,13 @@ const CASES: [Case; 25] = [
     },
     Case {
         theory: IMPLIED,
-        line: &["check", "T", "-"],
-        status: 2,
-        text: b"fault: usage\n",
-    },
-    Case {
-        theory: IMPLIED,
         line: &["check", "TB", "Q"],
         status: 3,
         text: b"fault: file TB\n",
     },
     Case {
         theory: IMPLIED,
-        line: &["check", "T", "Q"],
+        line: &["check", "--", "T", "Q"],
         status: 3,
         text: b"fault: file Q\n",
     },
@@ -230,9 +244,75 @@ const CASES: [Case; 25] = [
     },
     Case {
         theory: b"const p : bool; goal g : p;",
-        line: &["metis", "T", "g", "--proof"],
+        line: &["metis", "--proof", "T", "g"],
         status: 1,
         text: b"proof: not found (saturated)\n",
+    },
+    Case {
+        theory: LARGE,
+        line: &["metis", "T", "g", "huge"],
+        status: 2,
+        text: b"fault: fact huge\n",
+    },
+    Case {
+        theory: LARGE,
+        line: &["metis", "T", "g", "big"],
+        status: 4,
+        text: b"fault: big not built\n",
+    },
+    Case {
+        theory: LARGE,
+        line: &["metis", "T", "k", "huge"],
+        status: 4,
+        text: b"fault: goal k too large\n",
+    },
+    Case {
+        theory: LARGE,
+        line: &["problem", "T", "k"],
+        status: 4,
+        text: b"fault: goal k too large\n",
+    },
+    Case {
+        theory: LARGE,
+        line: &["filter", "T", "g", "--slice", "7"],
+        status: 0,
+        text: b"big 1 0/256\n",
+    },
+    Case {
+        theory: IMPLIED,
+        line: &["filter", "T", "g", "--slice=7"],
+        status: 0,
+        text: b"f2 1 32/48\nf1 1 0/16\n",
+    },
+    Case {
+        theory: IMPLIED,
+        line: &["filter", "T", "g"],
+        status: 0,
+        text: b"f2 1 32/48\nf1 2 21/21\n",
+    },
+    Case {
+        theory: EQUALS,
+        line: &["filter", "T", "g", "--slice", "0"],
+        status: 0,
+        text: b"a 1 16/32\nb 1 16/32\nc 1 16/32\nd 1 16/32\n",
+    },
+    Case {
+        theory: EQUALS,
+        line: &["filter", "T", "g", "--slice", "5"],
+        status: 0,
+        text: b"",
+    },
+    Case {
+        theory: IMPLIED,
+        line: &["problem", "T", "g", "--slice", "7"],
+        status: 0,
+        text: b"fof(f_f2, axiom, ((~ holds(t0(c_p))) | holds(t0(c_q)))).\nfof(f_f1, axiom, holds(t0(c_p))).\nfof(goal, conjecture, holds(t0(c_q))).\n",
+    },
+    Case {
+        theory: IMPLIED,
+        line: &["problem", "T", "none"],
+        status: 4,
+        text: b"fault: goal none\n",
     },
 ];
 
@@ -361,7 +441,7 @@ struct ShownCase<'a> {
 const SHOWN: [ShownCase; 2] = [
     ShownCase {
         theory: IMPLIED,
-        line: &["metis", "T", "g", "f1", "f2", "--proof"],
+        line: &["metis", "T", "--proof", "g", "f1", "f2"],
         begins: b"proof: by metis f1 f2\nsledge proof 1\ngoal g\n0 ",
         checked: b"checked: g from f1 f2\n",
     },

@@ -1,5 +1,5 @@
 ghost use Rattle.std.specs.Prelude.{◌≡◌, ◌++◌, [], OnOk, IfOk};
-ghost use Rattle.sledge_engine.specs.Texts.{around, kind_text, theory_text, SaysFault};
+ghost use Rattle.sledge_engine.specs.Texts.{around, kind_text, theory_text, usage_text, SaysFault};
 
 use text_kit::{Bytes, NoMemory, put_decimal};
 use theory_reader::{TheoryFault, TheoryKind};
@@ -26,6 +26,15 @@ pub(crate) fn put_refusal(
 {
     put_around(text, before, name, after)?;
     Ok(status)
+}
+
+/// Puts that the words are in no command's grammar.
+pub(crate) fn put_usage(text: &mut Bytes) -> Result<u8, NoMemory>
+    requires { text.old ≡ [] }
+    ensures { IfOk result (λ given. (given ≡ 2) × (text.new ≡ usage_text)) }
+{
+    text.append(b"fault: usage\n")?;
+    Ok(2)
 }
 
 /// The name of a kind of fault.

@@ -1,7 +1,7 @@
 ghost use Rattle.std.specs.Prelude.{map, string_bytes};
-ghost use Rattle.sledge_engine.specs.Fetches.{outside};
+ghost use Rattle.sledge_engine.specs.inner.Fetches.{outside};
 ghost use Rattle.sledge_engine.specs.Replies.{Answered};
-ghost use Rattle.sledge_engine.specs.Sinking.{IsPut, told_by};
+ghost use Rattle.sledge_engine.specs.inner.Sinking.{IsPut, told_by};
 
 use crate::commands::answer_words;
 use race_outside::{Shelf, Sink};

@@ -1,13 +1,15 @@
-ghost use Rattle.std.specs.Prelude.{◌≡◌, ◌++◌, ℕ, List, [], map, IfOk, OnOk};
+ghost use Rattle.std.specs.Prelude.{◌≡◌, ◌++◌, ◌∷◌, ℕ, List, [], if◌then◌else◌, map, IfOk, OnOk};
 ghost use Rattle.kernel_rules.specs.Derivations.{leaf, leaves};
+ghost use Rattle.theory_reader.specs.Sound.{fact_names};
 ghost use Rattle.sledge_engine.specs.Texts.{spaced};
 ghost use Rattle.sledge_engine.specs.Used.{listed_from};
-ghost use Rattle.sledge_engine.specs.Marks.{Marks};
+ghost use Rattle.sledge_engine.specs.inner.Marks.{Marks};
 
-use crate::choice::put_if;
+use crate::choice::put_name;
 use kernel_rules::Step;
 use std::alloc::Global;
 use text_kit::{Bytes, NoMemory, Rows};
+use theory_reader::Fact;
 
 /// As many marks as are asked for, none of them set.
 fn no_marks(alloc: Global, count: usize) -> Result<Rows<bool>, NoMemory>
@@ -42,18 +44,25 @@ fn marked(alloc: Global, count: usize, steps: &[Step]) -> Result<Rows<bool>, NoM
     Ok(marks)
 }
 
-/// Appends a space and a name for each that stands in a fact step by its number.
+/// Appends a space and a name where it is asked for.
+fn put_if(out: &mut Bytes, asked: bool, name: &[u8]) -> Result<(), NoMemory>
+    ensures { OnOk result (out.new ≡ out.old ++ (if asked then 32 ∷ name.now else [])) }
+{
+    if asked { put_name(out, name) } else { Ok(()) }
+}
+
+/// Appends a space and the name of each fact that stands in a fact step by its number.
 pub(crate) fn put_used(
     alloc: Global,
     out: &mut Bytes,
-    names: &[&[u8]],
+    facts: &[&Fact],
     steps: &[Step],
 ) -> Result<(), NoMemory>
-    ensures { OnOk result (out.new ≡ out.old ++ spaced (listed_from 0 (leaves steps.now) (map (λ n. n.now) names.now))) }
+    ensures { OnOk result (out.new ≡ out.old ++ spaced (listed_from 0 (leaves steps.now) (fact_names (map (λ f. f.now) facts.now)))) }
 {
-    let marks = marked(alloc, names.len(), steps)?;
-    for i in 0..names.len() {
-        put_if(out, *marks.at(i), names[i])?;
+    let marks = marked(alloc, facts.len(), steps)?;
+    for i in 0..facts.len() {
+        put_if(out, *marks.at(i), facts[i].name.as_slice())?;
     }
     Ok(())
 }

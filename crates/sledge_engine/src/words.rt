@@ -1,15 +1,19 @@
-ghost use Rattle.std.specs.Prelude.{◌≡◌, ◌↔◌, ◌≤◌, ◌<◌, ◌^◌, ℕ, Some, None, decimal, map, IfSome, IsTrue, MatchOption, string_bytes};
-ghost use Rattle.std.specs.List.{list_all};
-ghost use Rattle.sledge_engine.specs.Words.{metis_of, check_of, is_plain, before_option, ends_in_option, IsGen};
+ghost use Rattle.std.specs.Prelude.{◌≡◌, ◌≤◌, [], get_or, length, map, string_bytes, IfOk};
+ghost use Rattle.sledge_engine.specs.Words.{arguments as arguments_of, check_line as check_of, metis_line as metis_of, slice_line as slice_of};
+ghost use Rattle.sledge_engine.specs.inner.Shown.{check_shown, metis_shown, slice_shown};
 
-use itoa::Buffer;
+use sledge_words::Line;
+use std::alloc::Global;
+use text_kit::NoMemory;
 
 /// What `metis` is asked, lent from the words.
 #[derive(Clone, Copy, Drop)]
 pub(crate) struct MetisLine<'w> {
     pub theory: &'w str,
     pub goal: &'w str,
-    pub facts: &'w [String],
+    pub facts: &'w [&'w str],
+    /// Picks of the search.
+    pub budget: u32,
     /// Whether the proof is to be shown.
     pub shows: bool,
 }
@@ -21,133 +25,75 @@ pub(crate) struct CheckLine<'w> {
     pub proof: &'w str,
 }
 
-fn is_plain_word(word: &str) -> bool
-    ensures { result ≡ is_plain word.now }
+/// What `filter` and `problem` are asked, lent from the words.
+#[derive(Clone, Copy, Drop)]
+pub(crate) struct SliceLine<'w> {
+    pub theory: &'w str,
+    pub goal: &'w str,
+    /// The number of the slice.
+    pub slice: u32,
+}
+
+/// The word at a place, where there is one.
+fn word_at(words: &[String], place: u32) -> &str
+    ensures { result.now ≡ get_or (map string_bytes words.now) place [] }
 {
-    match word.as_bytes() {
-        [] => false,
-        [first, ..] => *first != b'-',
+    match words.get(place as usize) {
+        Some(word) => word.as_str(),
+        None => "",
     }
 }
 
-fn are_plain(words: &[String]) -> bool
-    ensures { result ≡ list_all is_plain (map string_bytes words.now) }
+/// The words that are the arguments of a line.
+pub(crate) fn arguments<'w>(
+    alloc: Global,
+    words: &'w [String],
+    line: &Line,
+) -> Result<Vec<&'w str>, NoMemory>
+    ensures { IfOk result (λ out. map (λ w. w.now) out.items ≡ arguments_of (map string_bytes words.now) line.now) }
 {
-    for word in words {
-        if !is_plain_word(word.as_str()) {
-            return false;
+    let mut out = Vec::new(alloc);
+    for place in line.places.as_slice() {
+        if out.push(word_at(words, *place)).is_err() {
+            return Err(NoMemory);
         }
     }
-    true
+    Ok(out)
 }
 
-/// The words without a last `--proof`, and whether there is one.
-fn split_option(words: &[String]) -> (&[String], bool)
-    ensures before { map string_bytes result.0.now ≡ before_option (map string_bytes words.now) }
-    ensures ends { result.1 ≡ ends_in_option (map string_bytes words.now) }
+/// What `metis` is asked by a line with these arguments.
+pub(crate) fn metis_line<'w>(line: &Line, words: &'w [&'w str]) -> MetisLine<'w>
+    requires { 2 ≤ length words.now }
+    ensures { metis_shown result ≡ metis_of line.now (map (λ w. w.now) words.now) }
 {
-    match words {
-        [before @ .., last] => {
-            if last.as_str() == "--proof" {
-                (before, true)
-            } else {
-                (words, false)
-            }
-        }
-        [] => (words, false),
+    MetisLine {
+        theory: words[0],
+        goal: words[1],
+        facts: &words[2..],
+        budget: line.budget,
+        shows: line.proof,
     }
 }
 
-/// The line of `metis` that the words are, where they are one.
-pub(crate) fn read_metis(words: &[String]) -> Option<MetisLine<'_>>
-    ensures { MatchOption result (metis_of (map string_bytes words.now) ≡ None) (λ l. metis_of (map string_bytes words.now) ≡ Some (record { theory = l.theory.now; goal = l.goal.now; facts = map string_bytes l.facts.now; shows = l.shows })) }
+/// What `check` is asked by a line with these arguments.
+pub(crate) fn check_line<'w>(words: &[&'w str]) -> CheckLine<'w>
+    requires { 2 ≤ length words.now }
+    ensures { check_shown result ≡ check_of (map (λ w. w.now) words.now) }
 {
-    match words {
-        [command, theory, goal, more @ ..] => {
-            let (facts, shows) = split_option(more);
-            if command.as_str() == "metis"
-                && is_plain_word(theory.as_str())
-                && is_plain_word(goal.as_str())
-                && are_plain(facts)
-            {
-                Some(MetisLine {
-                    theory: theory.as_str(),
-                    goal: goal.as_str(),
-                    facts,
-                    shows,
-                })
-            } else {
-                None
-            }
-        }
-        _ => None,
+    CheckLine {
+        theory: words[0],
+        proof: words[1],
     }
 }
 
-/// The line of `check` that the words are, where they are one.
-pub(crate) fn read_check(words: &[String]) -> Option<CheckLine<'_>>
-    ensures { MatchOption result (check_of (map string_bytes words.now) ≡ None) (λ l. check_of (map string_bytes words.now) ≡ Some (record { theory = l.theory.now; proof = l.proof.now })) }
+/// What `filter` and `problem` are asked by a line with these arguments.
+pub(crate) fn slice_line<'w>(line: &Line, words: &[&'w str]) -> SliceLine<'w>
+    requires { 2 ≤ length words.now }
+    ensures { slice_shown result ≡ slice_of line.now (map (λ w. w.now) words.now) }
 {
-    match words {
-        [command, theory, proof] => {
-            if command.as_str() == "check"
-                && is_plain_word(theory.as_str())
-                && is_plain_word(proof.as_str())
-            {
-                Some(CheckLine {
-                    theory: theory.as_str(),
-                    proof: proof.as_str(),
-                })
-            } else {
-                None
-            }
-        }
-        _ => None,
-    }
-}
-
-fn is_written(word: &str, n: u32) -> bool
-    ensures { IsTrue result ↔ (word.now ≡ decimal n) }
-{
-    let mut buffer = Buffer::new();
-    buffer.format(n) == word
-}
-
-/// The number that a word writes, in digits without a leading zero.
-fn number(word: &str) -> Option<u32>
-    ensures is { IfSome result (λ n. word.now ≡ decimal n) }
-    ensures only { (n : ℕ) → n < 2 ^ 32 → word.now ≡ decimal n → result ≡ Some n }
-{
-    match word.parse::<u32>() {
-        Ok(n) => if is_written(word, n) { Some(n) } else { None },
-        Err(_) => None,
-    }
-}
-
-/// The number of facts, from 1 to 20,000, that a word asks for.
-fn fact_count(word: &str) -> Option<u32>
-    ensures is { IfSome result (λ n. (1 ≤ n) × (n ≤ 20000) × (word.now ≡ decimal n)) }
-    ensures only { (n : ℕ) → 1 ≤ n → n ≤ 20000 → word.now ≡ decimal n → result ≡ Some n }
-{
-    match number(word) {
-        Some(n) => if 1 <= n && n <= 20_000 { Some(n) } else { None },
-        None => None,
-    }
-}
-
-/// The number of facts that `gen` is asked for, where the words are so.
-pub(crate) fn read_gen(words: &[String]) -> Option<u32>
-    ensures is { IfSome result (IsGen (map string_bytes words.now)) }
-    ensures only { (n : ℕ) → IsGen (map string_bytes words.now) n → result ≡ Some n }
-{
-    match words {
-        [command, count] => {
-            if command.as_str() == "gen" {
-                fact_count(count.as_str())
-            } else {
-                None
-            }
-        }
-        _ => None,
+    SliceLine {
+        theory: words[0],
+        goal: words[1],
+        slice: line.slice,
     }
 }

@@ -1,6 +1,6 @@
 use Rattle.hol_terms.specs.declared.env.Env.{Env}
 use Rattle.theory_reader.specs.Seen.{IsEnvOf}
-use Rattle.sledge_engine.specs.Replies.{StepsReply}
+use Rattle.sledge_engine.specs.Check.{StepsReply}
 use Rattle.sledge_engine.proofs.Replying.{if_ok_map}
 use Rattle.sledge_engine.proofs.check.answer_file.Goals as goal
 

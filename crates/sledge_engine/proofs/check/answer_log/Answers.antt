@@ -3,7 +3,7 @@ use Rattle.kernel_rules.specs.Derivations.{Checks, derived}
 use Rattle.theory_reader.specs.Sound.{goal_names}
 use Rattle.proof_syntax.specs.Names.{name_in}
 use Rattle.hol_terms.proofs.Both.{true_or_false}
-use Rattle.sledge_engine.specs.Replies.{StepsReply, other_end, proves}
+use Rattle.sledge_engine.specs.Check.{StepsReply, other_end, proves}
 use Rattle.sledge_engine.specs.Texts.{checked_text, step_text}
 use Rattle.sledge_engine.specs.Used.{used_names}
 use Rattle.sledge_engine.proofs.Asking.{has}

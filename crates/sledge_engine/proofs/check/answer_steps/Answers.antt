@@ -1,6 +1,6 @@
 use Rattle.std.proofs.Common.{◌≡◌, Err, IfOk, subst}
 use Rattle.hol_kernel.specs.Checking.{Checked}
-use Rattle.sledge_engine.specs.Replies.{StepsReply, refused}
+use Rattle.sledge_engine.specs.Check.{StepsReply, refused}
 use Rattle.sledge_engine.specs.Texts.{step_text}
 use Rattle.sledge_engine.proofs.Replying.{reply_with}
 use Rattle.sledge_engine.proofs.check.answer_steps.Goals as goal

@@ -1,19 +1,31 @@
-use Rattle.std.proofs.Common.{◌≡◌, ◌∙◌, Some, sym, ap, slice_get}
-use Rattle.sledge_engine.specs.Asked.{said}
-use Rattle.sledge_engine.specs.Choice.{seen}
-use Rattle.sledge_engine.specs.Replies.{GoalReply, not_built}
-use Rattle.sledge_engine.specs.Built.{first_other}
-use Rattle.sledge_engine.specs.Texts.{not_built_text}
-use Rattle.sledge_engine.proofs.Asking.{unbuilt_fact}
+use Rattle.std.proofs.Common.{subst, sym}
+use Rattle.std.specs.Prelude.{MatchOption}
+use Rattle.sledge_engine.specs.Choice.{AllVisible, IsFirstHidden}
+use Rattle.sledge_engine.specs.Metis.{GoalReply, hidden}
+use Rattle.sledge_engine.specs.Texts.{fact_text}
+use Rattle.sledge_engine.specs.inner.Asked.{said}
+use Rattle.sledge_engine.specs.inner.Visible.{IsSeen}
+use Rattle.sledge_engine.proofs.Fitted.{as_many}
 use Rattle.sledge_engine.proofs.Replying.{reply_with}
 use Rattle.sledge_engine.proofs.metis.answer_asked.Goals as goal
+
+pub first_hidden-requires : goal.first_hidden-requires
+first_hidden-requires c =
+    let a = c.args.asked.now in
+    as_many a.theory.now a.goal a.env.now c.requires.asked.env c.in_ok-names.names c.in_ok-names.ensures
+
+pub answer_visible-requires-clause-visible : goal.answer_visible-requires-clause-visible
+answer_visible-requires-clause-visible c =
+    let a = c.args.asked.now in
+    let t = a.theory.now in
+    let seen : IsSeen t a.goal a.env.now c.in_ok-names.names = record { env = c.requires.asked.env; names_are = c.in_ok-names.ensures } in
+    subst (λ o. MatchOption o (AllVisible t a.goal (said a)) (λ w. IsFirstHidden t a.goal (said a) w.now)) c.in-None.is (c.in_ok-name.ensures t a.goal seen)
 
 pub returns-in-Some : goal.returns-in-Some
 returns-in-Some c =
     let a = c.args.asked.now in
     let t = a.theory.now in
-    let name = c.name_at.result.now in
-    let first : first_other a.env.now.facts ≡ Some c.in-Some.k = ap first_other (sym c.as_slice.ensures) ∙ sym c.first_other.ensures ∙ c.in-Some.is in
-    let there : slice_get (seen t a.goal) c.in-Some.k ≡ Some name = ap (λ l. slice_get l c.in-Some.k) (sym c.requires.asked.names) ∙ c.name_at.ensures in
-    reply_with (GoalReply t a.goal (said a) a.shows) c.put_refusal.result 4 (not_built_text name) c.put_refusal.new.text
-    (not_built name (unbuilt_fact a c.requires.asked c.in-Some.k name first there)) c.put_refusal.ensures
+    let seen : IsSeen t a.goal a.env.now c.in_ok-names.names = record { env = c.requires.asked.env; names_are = c.in_ok-names.ensures } in
+    let first = subst (λ o. MatchOption o (AllVisible t a.goal (said a)) (λ w. IsFirstHidden t a.goal (said a) w.now)) c.in-Some.is (c.in_ok-name.ensures t a.goal seen) in
+    reply_with (GoalReply t a.goal (said a) a.shows) c.put_refusal.result 2 (fact_text c.as_bytes.result.now) c.put_refusal.new.text
+    (hidden c.as_bytes.result.now (subst (IsFirstHidden t a.goal (said a)) (sym c.as_bytes.ensures.value) first)) c.put_refusal.ensures

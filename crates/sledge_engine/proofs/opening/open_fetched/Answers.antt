@@ -1,5 +1,5 @@
 use Rattle.std.proofs.Common.{subst}
-use Rattle.sledge_engine.specs.Fetches.{IsFetch, IsOpened, IsTheoryOf}
+use Rattle.sledge_engine.specs.inner.Fetches.{IsFetch, IsOpened, IsTheoryOf}
 use Rattle.sledge_engine.specs.Files.{Outside, most_theory_bytes, no_bytes}
 use Rattle.sledge_engine.proofs.Fetched.{opened_by}
 use Rattle.sledge_engine.proofs.Replying.{if_ok_map}

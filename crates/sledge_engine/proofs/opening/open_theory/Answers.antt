@@ -1,4 +1,4 @@
-use Rattle.sledge_engine.specs.Fetches.{outside}
+use Rattle.sledge_engine.specs.inner.Fetches.{outside}
 use Rattle.sledge_engine.specs.Files.{most_theory_bytes}
 use Rattle.sledge_engine.proofs.Fetched.{is_short}
 use Rattle.sledge_engine.proofs.opening.open_theory.Goals as goal

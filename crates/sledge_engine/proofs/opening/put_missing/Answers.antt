@@ -1,6 +1,6 @@
 use Rattle.std.proofs.Common.{ℕ, sym, subst}
 use Rattle.sledge_engine.specs.declared.fetching.Fetch.TheVariants.{Failed}
-use Rattle.sledge_engine.specs.Fetches.{IsFetch}
+use Rattle.sledge_engine.specs.inner.Fetches.{IsFetch}
 use Rattle.sledge_engine.specs.Files.{FileRefusal, Outside, no_file}
 use Rattle.sledge_engine.specs.Texts.{file_text}
 use Rattle.sledge_engine.proofs.Replying.{reply_with}

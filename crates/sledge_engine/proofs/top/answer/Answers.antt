@@ -1,6 +1,6 @@
 use Rattle.std.proofs.Common.{map, string_bytes, sym, subst}
-use Rattle.sledge_engine.specs.Fetches.{outside}
-use Rattle.sledge_engine.specs.Sinking.{told_by}
+use Rattle.sledge_engine.specs.inner.Fetches.{outside}
+use Rattle.sledge_engine.specs.inner.Sinking.{told_by}
 use Rattle.sledge_engine.specs.Replies.{Reply, memory}
 use Rattle.sledge_engine.specs.Texts.{memory_text}
 use Rattle.sledge_engine.proofs.Replying.{answered_by}

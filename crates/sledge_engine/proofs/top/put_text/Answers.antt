@@ -1,5 +1,5 @@
 use Rattle.std.proofs.Common.{refl}
-use Rattle.sledge_engine.specs.Sinking.{whole, part}
+use Rattle.sledge_engine.specs.inner.Sinking.{whole, part}
 use Rattle.sledge_engine.proofs.top.put_text.Goals as goal
 
 pub returns-in-Ok : goal.returns-in-Ok

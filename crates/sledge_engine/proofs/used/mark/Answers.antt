@@ -1,6 +1,6 @@
 use Rattle.std.proofs.Common.{◌<◌, [], ◌∷◌, ◌++◌, length, sym, ap, subst}
 use Rattle.kernel_rules.specs.Derivations.{leaf}
-use Rattle.sledge_engine.specs.Marks.{Marks}
+use Rattle.sledge_engine.specs.inner.Marks.{Marks}
 use Rattle.sledge_engine.proofs.Marking.{one_marked}
 use Rattle.sledge_engine.proofs.used.mark.Goals as goal
 

@@ -1,6 +1,6 @@
 use Rattle.std.proofs.Common.{subst, take}
 use Rattle.kernel_rules.specs.Derivations.{leaves}
-use Rattle.sledge_engine.specs.Marks.{Marks}
+use Rattle.sledge_engine.specs.inner.Marks.{Marks}
 use Rattle.sledge_engine.proofs.Marking.{leaves_more}
 use Rattle.sledge_engine.proofs.used.marked.Goals as goal
 

@@ -9,5 +9,5 @@ pub loop-i-preserved : goal.loop-i-preserved
 loop-i-preserved c =
     let used = leaves c.args.steps.now in
     let asked : c.at.result.now ≡ is_listed used c.loop-i.i =
-    mark_at (length c.args.names.now) used c.in_ok-marks.marks c.loop-i.i c.at.result.now c.in_ok-marks.ensures c.at.ensures in
+    mark_at (length c.args.facts.now) used c.in_ok-marks.marks c.loop-i.i c.at.result.now c.in_ok-marks.ensures c.at.ensures in
     grind (arith, common_steps, asked)
