@@ -1,0 +1,5 @@
+pub mod Scopes
+pub mod Walks
+pub mod Meetings
+pub mod Clausified
+pub mod inner
