@@ -26,7 +26,7 @@ use text_kit::{NoMemory, Rows};
 /// want of memory where they would come to more than 2^28 and 2^16 for each of the first 2^16 steps, or where a term
 /// or a type that it is put to is deeper than `hol_terms::DEEPEST`. So parts that a file's steps share many times
 /// over can't keep it at work, and no walk goes deeper than the stack. Where sets of hypotheses are united, the nodes
-/// of the set with fewer terms count, once for each comparison that a term of it may need in the other.
+/// of the set with fewer terms count, once for each comparison that a term of it takes in the other on an average.
 #[derive(Drop)]
 pub struct Log<'e> {
     env: &'e Env,

@@ -50,6 +50,10 @@ impl Heft {
     }
 }
 
+fn one_term(nodes: u64) -> Heft {
+    Heft { terms: 1, nodes }
+}
+
 fn weighed(earlier: &Rows<Sequent>, a: &ThmId) -> Heft {
     match earlier.get(a.0 as usize) {
         Some(q) => Heft {
@@ -60,28 +64,30 @@ fn weighed(earlier: &Rows<Sequent>, a: &ThmId) -> Heft {
     }
 }
 
-/// The comparisons that a term may need at most to be looked up in a set, and then to cut the set there: twice the
-/// levels of a tree in balance, which are about 2.4 for each binary digit of the number of its terms.
-fn comparisons(within: Heft) -> u64 {
-    let digits = 64u32.saturating_sub(within.terms.leading_zeros());
-    u64::from(digits).saturating_mul(5)
+/// About how many comparisons each of so many terms takes while they are looked up in a set and put into it or taken
+/// out: two ways down of log2 (n / m) + 2 levels for m terms in n. At worst it takes three ways, and a tree in balance
+/// has 2.4 times as many levels as log2 says.
+fn comparisons(terms: u64, within: Heft) -> u64 {
+    let times = within.terms / terms.max(1);
+    let digits = 64u32.saturating_sub(times.leading_zeros());
+    u64::from(digits).saturating_add(2).saturating_mul(2)
 }
 
-/// The nodes that are looked at while terms of so many nodes are looked up, or put into a set or taken out of it. A
-/// comparison looks at no more nodes than the smaller term has.
-fn looking_up(nodes: u64, within: Heft) -> u64 {
-    nodes.saturating_mul(comparisons(within))
+/// The nodes that are looked at while terms are looked up in a set and put into it or taken out. A comparison looks at
+/// no more nodes than the smaller term has.
+fn looking_up(new: Heft, within: Heft) -> u64 {
+    new.nodes.saturating_mul(comparisons(new.terms, within))
 }
 
 /// The nodes that are looked at while two sets are united: the terms of the set with fewer are looked up and put into
 /// the other.
 fn uniting(a: Heft, b: Heft) -> u64 {
     if a.terms < b.terms {
-        looking_up(a.nodes, b)
+        looking_up(a, b)
     } else if b.terms < a.terms {
-        looking_up(b.nodes, a)
+        looking_up(b, a)
     } else {
-        looking_up(a.nodes.saturating_add(b.nodes), a)
+        looking_up(a.with(b), a.with(b))
     }
 }
 
@@ -106,7 +112,7 @@ fn looked_at(earlier: &Rows<Sequent>, a: &ThmId, left: u64) -> Result<u64, NoMem
 /// What is left once a conclusion was looked at, and a formula of so many nodes was taken out of the hypotheses.
 fn taken_out(earlier: &Rows<Sequent>, a: &ThmId, formula: u64, left: u64) -> Result<u64, NoMemory> {
     let rest = concluded(earlier, a, left)?;
-    paid(rest, looking_up(formula, weighed(earlier, a)))
+    paid(rest, looking_up(one_term(formula), weighed(earlier, a)))
 }
 
 /// What is left once two conclusions were looked at, and their hypotheses united.
@@ -151,7 +157,8 @@ fn instantiated(
             if new == 0 {
                 Ok(rest)
             } else {
-                paid(rest, looking_up(own.nodes.saturating_add(new), own))
+                let all = own.nodes.saturating_add(new);
+                paid(rest, looking_up(one_term(all), own))
             }
         }
         None => Ok(rest),

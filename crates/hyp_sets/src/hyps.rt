@@ -6,9 +6,9 @@ ghost use Rattle.hyp_sets.specs.Sets.{set_of, only, image, absent};
 ghost use Rattle.hyp_sets.specs.inner.Trees.{Ascends};
 
 use crate::counting::in_terms;
-use crate::looking::{count, covers, has, list_into, none_has};
+use crate::looking::{count, has, list_into, none_has};
 use crate::tree::{Tree, leaf, single, weight_of};
-use crate::uniting::{all_replaced, gathered, taken_out};
+use crate::uniting::{all_replaced, covers, gathered, taken_out};
 use hol_terms::{Term, Ty, same};
 use std::alloc::Global;
 use std::marker::Model;
@@ -142,9 +142,9 @@ impl Hyps {
     pub fn union(&self, alloc: Global, other: &Hyps) -> Result<Hyps, NoMemory>
         ensures { IfOk result (λ s. s ≡ set.union self.now other.now) }
     {
-        if covers(self.tree.get(), other.tree.get()) {
+        if covers(alloc, &self.tree, other.tree.get())? {
             self.again()
-        } else if covers(other.tree.get(), self.tree.get()) {
+        } else if covers(alloc, &other.tree, self.tree.get())? {
             other.again()
         } else {
             let tree = gathered(alloc, &self.tree, &other.tree)?;

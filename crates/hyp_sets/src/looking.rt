@@ -1,10 +1,10 @@
-ghost use Rattle.std.specs.Prelude.{◌≡◌, ◌-◌, ◌^◌, ◌++◌, length, min, IsTrue, OnOk};
+ghost use Rattle.std.specs.Prelude.{◌≡◌, ◌-◌, ◌^◌, ◌++◌, length, min, OnOk};
 ghost use Rattle.std.specs.FinSet as set;
 ghost use Rattle.std.specs.List.{list_all};
-ghost use Rattle.hyp_sets.specs.Sets.{set_of, Among, absent_in};
+ghost use Rattle.hyp_sets.specs.Sets.{set_of, absent_in};
 ghost use Rattle.hyp_sets.specs.inner.Trees.{items, Ascends};
 
-use crate::tree::{Tree, weight_of};
+use crate::tree::Tree;
 use hol_terms::{Term, Ty, compare, copy, free_in};
 use std::cmp::Ordering;
 use text_kit::{NoMemory, Rows};
@@ -21,31 +21,6 @@ pub(crate) fn has(t: &Tree, x: &Term) -> bool
             Ordering::Less => has(l.get(), x),
             Ordering::Greater => has(r.get(), x),
         },
-    }
-}
-
-/// Whether the first tree has all terms of the second.
-fn has_all(whole: &Tree, part: &Tree) -> bool
-    requires { Ascends (items whole.now) }
-    ensures { IsTrue result → Among (set_of (items part.now)) (set_of (items whole.now)) }
-{
-    match part {
-        Tree::Leaf => true,
-        Tree::Fork(l, k, r, _) => {
-            has(whole, &k.get().term) && has_all(whole, l.get()) && has_all(whole, r.get())
-        }
-    }
-}
-
-/// Whether the first tree has all terms of the second, which it hasn't where it has fewer.
-pub(crate) fn covers(whole: &Tree, part: &Tree) -> bool
-    requires { Ascends (items whole.now) }
-    ensures { IsTrue result → Among (set_of (items part.now)) (set_of (items whole.now)) }
-{
-    if weight_of(whole).terms < weight_of(part).terms {
-        false
-    } else {
-        has_all(whole, part)
     }
 }
 

@@ -1,10 +1,11 @@
-ghost use Rattle.std.specs.Prelude.{◌≡◌, IfOk};
+ghost use Rattle.std.specs.Prelude.{◌≡◌, IsTrue, IfOk};
 ghost use Rattle.std.specs.FinSet as set;
 ghost use Rattle.hol_terms.specs.Substitution.{put_free as replaced, one_put};
-ghost use Rattle.hyp_sets.specs.Sets.{set_of, image};
+ghost use Rattle.hyp_sets.specs.Sets.{set_of, Among, image};
 ghost use Rattle.hyp_sets.specs.inner.Trees.{items, Ascends, CutAt};
 
 use crate::joining::{glued, join};
+use crate::looking::has;
 use crate::tree::{Tree, single, weight_of};
 use hol_terms::{Term, Ty, compare, put_free};
 use std::alloc::Global;
@@ -53,6 +54,33 @@ fn cut_at(alloc: Global, t: &Shared<Tree>, x: &Term) -> Result<Cut, NoMemory>
                 })
             }
         },
+    }
+}
+
+/// Whether the first tree has all terms of the second, which it hasn't where it has fewer.
+///
+/// For m terms of the second and n of the first it takes time of about m log(n / m + 1) comparisons, and those of one
+/// way down where the second's uppermost term is missing.
+pub(crate) fn covers(alloc: Global, whole: &Shared<Tree>, part: &Tree) -> Result<bool, NoMemory>
+    requires { Ascends (items whole.now) }
+    ensures { IfOk result (λ b. IsTrue b → Among (set_of (items part.now)) (set_of (items whole.now))) }
+{
+    match part {
+        Tree::Leaf => Ok(true),
+        Tree::Fork(l, k, r, weight) => {
+            if weight_of(whole.get()).terms < weight.terms {
+                return Ok(false);
+            }
+            if !has(whole.get(), &k.get().term) {
+                return Ok(false);
+            }
+            let cut = cut_at(alloc, whole, &k.get().term)?;
+            if covers(alloc, &cut.before, l.get())? {
+                covers(alloc, &cut.after, r.get())
+            } else {
+                Ok(false)
+            }
+        }
     }
 }
 
