@@ -1,0 +1,6 @@
+pub mod Places
+pub mod Variables
+pub mod Refutations
+pub mod Sources
+pub mod Laws
+pub mod Shown

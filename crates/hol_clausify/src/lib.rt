@@ -1,0 +1,12 @@
+//! Clauses of a log's facts and goal, each with its theorem.
+#![tactic(auto)]
+
+mod laws;
+mod source;
+
+pub use formula_clauses::{ClauseFault, TypedLiteral, fits};
+pub use laws::{
+    choice_stands, chosen_expands, chosen_is_shown, closed_over_typed, expanded_stands,
+    expands_under, known_stays, opens_again, put_under, reads_back, refuted_is_walked, reopens,
+};
+pub use source::Source;
