@@ -1,6 +1,8 @@
 ghost use Rattle.std.specs.Prelude.{◌≡◌, ◌≤◌, ◌<◌, [], IsTrue, IfOk, IfSome, if◌then◌else◌};
 ghost use Rattle.race_outside.specs.Works.{is_answer};
 
+mod stress;
+
 use super::*;
 use race_board::DrainEnd;
 use race_core::{Order, Outcome, Verdict};
