@@ -17,7 +17,7 @@ use std::alloc::Global;
 use text_kit::{NoMemory, Rows};
 
 /// The type of formulas.
-fn bool_type() -> Ty
+pub(crate) fn bool_type() -> Ty
     ensures { result ≡ bool_ty }
 {
     Ty::Base(0)

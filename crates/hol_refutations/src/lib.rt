@@ -6,13 +6,17 @@
 #![tactic(auto)]
 
 mod choices;
+mod counterexamples;
 mod denying;
 mod equality;
 mod laws;
 mod propositional;
 mod quantifiers;
+#[cfg(test)]
+mod tests;
 
 pub use choices::{some_chosen, some_named};
+pub use counterexamples::not_all_chosen;
 pub use equality::{equal_first, equal_second, not_equal};
 pub use laws::{both_land, denial_lands, either_lands, part_lands, parts_land};
 pub use propositional::{

@@ -1,0 +1,28 @@
+use Rattle.std.proofs.Common.{sym, ap, subst}
+use Rattle.hol_terms.specs.Types.{bool_ty}
+use Rattle.hol_terms.proofs.Formulas.{formula_typed, formula_aux_free}
+use Rattle.hol_kernel.specs.Conditions.{IsGiven}
+use Rattle.hol_derived.proofs.ContextLaws.{given_from}
+use Rattle.hol_derived.proofs.Splits.{formula_stays}
+use Rattle.hol_refutations.proofs.tests.refuted_quantifiers.Goals as goal
+
+pub atom-requires : goal.atom-requires
+atom-requires c = record { a = c.requires.body }
+
+pub quantifiers_are_told-requires-clause-every : goal.quantifiers_are_told-requires-clause-every
+quantifiers_are_told-requires-clause-every c = formula_stays _ _ _ c.atom.ensures.kept c.requires.every
+
+pub quantifiers_are_told-requires-clause-each : goal.quantifiers_are_told-requires-clause-each
+quantifiers_are_told-requires-clause-each c = formula_stays _ _ _ c.atom.ensures.kept c.requires.each
+
+pub quantifiers_are_told-requires-clause-some : goal.quantifiers_are_told-requires-clause-some
+quantifiers_are_told-requires-clause-some c = formula_stays _ _ _ c.atom.ensures.kept c.requires.some
+
+pub quantifiers_are_told-requires-clause-value : goal.quantifiers_are_told-requires-clause-value
+quantifiers_are_told-requires-clause-value c = subst (IsGiven c.atom.new.log.env.sig c.args.u.now) (sym c.requires.ty) (given_from c.atom.new.log.env.sig c.args.u.now bool_ty (formula_typed c.atom.new.log.env.sig c.args.u.now (formula_stays _ _ c.args.u.now c.atom.ensures.kept c.requires.value)) (formula_aux_free c.atom.new.log.env.sig c.args.u.now (formula_stays _ _ c.args.u.now c.atom.ensures.kept c.requires.value)))
+
+pub quantifiers_are_told-requires-clause-th : goal.quantifiers_are_told-requires-clause-th
+quantifiers_are_told-requires-clause-th c = c.in_ok-clash.ensures.gives.is_thm
+
+pub quantifiers_are_told-requires-clause-th_false : goal.quantifiers_are_told-requires-clause-th_false
+quantifiers_are_told-requires-clause-th_false c = ap (λ q. q.concl) c.in_ok-clash.ensures.gives.is
