@@ -13,7 +13,7 @@ use Rattle.fo_terms.specs.declared.atom.Atom.TheVariants.{Eq}
 use Rattle.fo_terms.specs.declared.literal.Literal.{Literal}
 use Rattle.fo_terms.specs.Substitution.{var, fun}
 use Rattle.fo_terms.specs.Normal.{atom_terms}
-use Rattle.fo_terms.specs.Gathered.{added, all_added}
+use Rattle.fo_terms.specs.inner.Gathered.{added, all_added}
 use Rattle.fo_terms.proofs.Gathering.{all_added-append}
 use Rattle.fo_terms.proofs.Induction.{Each, by_cases}
 use Rattle.fo_terms.proofs.Renaming.{each_append}

@@ -13,7 +13,7 @@ use Rattle.tagged_lines.specs.Lifted.{IsInstance}
 use Rattle.hyp_sets.specs.Sets.{TermSet, Holds, Among}
 use Rattle.kernel_rules.specs.Connectives.{falsum}
 use Rattle.hol_kernel.specs.Logs.{Logged, IsThm, thm}
-use Rattle.hol_clauses.specs.declared.literal.TypedLiteral.{TypedLiteral}
+use Rattle.hol_terms.specs.declared.literal.TypedLiteral.{TypedLiteral}
 use Rattle.hol_clauses.specs.declared.binding.Binding.{Binding}
 use Rattle.hol_clauses.specs.Literals.{allowed}
 

@@ -1,6 +1,6 @@
 ghost use Rattle.std.specs.Prelude.{◌≡◌, IfOk, OnOk};
 ghost use Rattle.std.specs.List.{list_any};
-ghost use Rattle.fo_terms.specs.Gathered.{added, all_added};
+ghost use Rattle.fo_terms.specs.inner.Gathered.{added, all_added};
 ghost use Rattle.tagged_terms.specs.Readings.{signs_of};
 ghost use Rattle.tagged_lines.specs.Tags.{variable_of, term_variables, terms_variables, literal_variables};
 ghost use Rattle.clause_instances.specs.inner.Variables.{is_variable, distinct_variables, TagAs, VariableAs};

@@ -12,7 +12,7 @@ use Rattle.fo_infer.specs.declared.made.Made.{Made}
 use mathlib.Core.Bool.{beq, not}
 use Rattle.std.specs.List.{remove}
 use Rattle.fo_infer.specs.Inferences.{atom_equations, conclusion, Factors, Reflects, AloneGives, Alone, all_factor_rules, all_reflex_rules, alone_rules, Listed}
-use Rattle.fo_infer.specs.Adding.{AtomsUnifierOf, Adds}
+use Rattle.fo_infer.specs.inner.Adding.{AtomsUnifierOf, Adds}
 use Rattle.fo_infer.proofs.Resolvents.{some_same}
 
 pub atoms_answer : (a b : Atom) (es : List (FoTerm × FoTerm)) (o : Option Subst) → atom_equations a b ≡ Some es → UnifierOf es o → AtomsUnifierOf a b o

@@ -8,7 +8,7 @@ use Rattle.fo_terms.proofs.Induction.{Each}
 use Rattle.fo_infer.specs.declared.made.Made.{Made}
 use Rattle.fo_infer.specs.declared.made.Rule.{Rule}
 use Rattle.fo_infer.specs.Inferences.{Listed, done, skip, give, upto}
-use Rattle.fo_infer.specs.Adding.{Answered, entry, Adds}
+use Rattle.fo_infer.specs.inner.Adding.{Answered, entry, Adds}
 
 module _ (Gives : Rule → Clause → Type 0) where
   pub listed_append : {rs ss : List Rule} {ms ns : List Made} → Listed Gives rs ms → Listed Gives ss ns → Listed Gives (rs ++ ss) (ms ++ ns)

@@ -14,7 +14,7 @@ use Rattle.fo_unify.specs.declared.subst.Bind.{Bind}
 use Rattle.fo_unify.specs.Lookup.{term_of}
 use Rattle.fo_unify.specs.Match.{Unique, Fits, Matches}
 use Rattle.fo_unify.proofs.MatchLaws.{unique_fits}
-use Rattle.fo_infer.specs.Covering.{Narrows, Sends, Coverable, CoverableBy, Covers, CoversBy}
+use Rattle.fo_infer.specs.inner.Covering.{Narrows, Sends, Coverable, CoverableBy, Covers, CoversBy}
 
 module _ (P Q : (ℕ → FoTerm) → Type 0) (to : (v : ℕ → FoTerm) → P v → Q v) (from : (v : ℕ → FoTerm) → Q v → P v) where
   pub narrows_map : (old new : List Bind) (made : Bool) → Narrows P old new made → Narrows Q old new made

@@ -29,10 +29,10 @@ use Rattle.fo_infer.specs.declared.made.Made.{Made}
 use Rattle.fo_infer.specs.declared.made.Rule.{Rule}
 use Rattle.fo_infer.specs.declared.made.Rule.TheVariants.{Para}
 use Rattle.fo_infer.specs.Paths.{at_path, at_atom_path, arguments, layer_arguments, paths_of, paths_step, behind_places, atom_paths}
-use Rattle.fo_infer.specs.Adding.{Answered, entry, Adds}
+use Rattle.fo_infer.specs.inner.Adding.{Answered, entry, Adds}
 use Rattle.fo_infer.proofs.Listing.{adds_then, adds_one}
 use Rattle.fo_infer.specs.Inferences.{Position, above_all, renamed_apart, conclusion, sought, put_in, literal_replaced, Paramodulates, upto, option_paths, position_rules, direction_rules, para_rules}
-use Rattle.fo_infer.specs.Places.{IsSource, NotBelow, rules_behind}
+use Rattle.fo_infer.specs.inner.Places.{IsSource, NotBelow, rules_behind}
 use Rattle.fo_infer.proofs.Resolvents.{some_same}
 use Rattle.fo_infer.proofs.Factorings.{sides_same, equating}
 use Rattle.fo_infer.proofs.Unifiers.{not_below_kept}

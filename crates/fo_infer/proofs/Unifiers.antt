@@ -12,7 +12,7 @@ use Rattle.fo_unify.specs.Lookup.{term_of}
 use Rattle.fo_unify.specs.Unifier.{IsMostGeneral}
 use Rattle.fo_order.specs.KnuthBendix.{Above}
 use Rattle.fo_infer.specs.Inferences.{conclusion}
-use Rattle.fo_infer.specs.Places.{NotBelow}
+use Rattle.fo_infer.specs.inner.Places.{NotBelow}
 use Rattle.fo_infer.proofs.OrderKept.{above_kept}
 
 -- one substitution goes through another: a term, an atom, a list of literals

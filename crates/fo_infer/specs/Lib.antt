@@ -2,8 +2,5 @@ pub mod Paths
 pub mod Inferences
 pub mod Lines
 pub mod Subsumption
-pub mod Adding
-pub mod Reading
-pub mod Places
 pub mod OneList
-pub mod Covering
+pub mod inner

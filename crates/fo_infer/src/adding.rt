@@ -1,5 +1,5 @@
 ghost use Rattle.std.specs.Prelude.{◌≡◌, ◌++◌, OnOk};
-ghost use Rattle.fo_infer.specs.Adding.{entry};
+ghost use Rattle.fo_infer.specs.inner.Adding.{entry};
 
 use crate::{Made, Rule};
 use fo_terms::Clause;

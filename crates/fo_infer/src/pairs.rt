@@ -1,6 +1,6 @@
 ghost use Rattle.std.specs.Prelude.{IfOk};
 ghost use Rattle.fo_infer.specs.Inferences.{BetweenAt, Between, BetweenPlain};
-ghost use Rattle.fo_infer.specs.Places.{position_of};
+ghost use Rattle.fo_infer.specs.inner.Places.{position_of};
 
 use crate::Made;
 use crate::paramodulating::paramodulate;

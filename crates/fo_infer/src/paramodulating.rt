@@ -7,8 +7,8 @@ ghost use Rattle.fo_order.specs.Eligible.{IsEligible};
 ghost use Rattle.fo_infer.specs.declared.made.Rule.TheVariants.{Para};
 ghost use Rattle.fo_infer.specs.Paths.{paths_of, behind_places, at_atom_path, atom_paths};
 ghost use Rattle.fo_infer.specs.Inferences.{renamed_apart, conclusion, literal_replaced, PairGives, position_rules, direction_rules, para_rules, all_para_rules};
-ghost use Rattle.fo_infer.specs.Adding.{Answered, entry, Adds};
-ghost use Rattle.fo_infer.specs.Places.{position_of, IsSource, NotBelow, rules_behind};
+ghost use Rattle.fo_infer.specs.inner.Adding.{Answered, entry, Adds};
+ghost use Rattle.fo_infer.specs.inner.Places.{position_of, IsSource, NotBelow, rules_behind};
 
 use crate::adding::add;
 use crate::concluding::{push_put, push_rest};

@@ -1,7 +1,7 @@
 ghost use Rattle.std.specs.Prelude.{◌≡◌, if◌then◌else◌, IfOk};
 ghost use Rattle.fo_infer.specs.Paths.{changed_at, replaced, atom_replaced};
 ghost use Rattle.fo_infer.specs.Inferences.{is_compound, is_single_compound, is_tagged, is_whole, tagged_position, plain_position};
-ghost use Rattle.fo_infer.specs.Places.{position_of};
+ghost use Rattle.fo_infer.specs.inner.Places.{position_of};
 
 use fo_terms::{Atom, FoTerm};
 use std::alloc::Global;

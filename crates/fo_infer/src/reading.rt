@@ -1,4 +1,4 @@
-ghost use Rattle.fo_infer.specs.Reading.{HeldAs, SidesAs};
+ghost use Rattle.fo_infer.specs.inner.Reading.{HeldAs, SidesAs};
 
 use fo_terms::{Atom, FoTerm, Literal};
 

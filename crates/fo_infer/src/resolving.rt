@@ -1,7 +1,7 @@
 ghost use Rattle.std.specs.Prelude.{◌≡◌, ◌<◌, true, length, Some, slice_get, IfOk, OnOk};
 ghost use Rattle.fo_terms.specs.declared.atom.Atom.TheVariants.{Holds};
 ghost use Rattle.fo_infer.specs.Inferences.{renamed_apart, Position, Resolves, PairGives, resolve_rules, all_resolve_rules};
-ghost use Rattle.fo_infer.specs.Adding.{Answered, Adds};
+ghost use Rattle.fo_infer.specs.inner.Adding.{Answered, Adds};
 
 use crate::adding::add;
 use crate::concluding::conclude_pair;

@@ -1,6 +1,6 @@
 ghost use Rattle.std.specs.Prelude.{◌<◌, length, IfOk, OnOk};
 ghost use Rattle.fo_infer.specs.Inferences.{Factors, Reflects, AloneGives, Alone, factor_rules, all_factor_rules, all_reflex_rules};
-ghost use Rattle.fo_infer.specs.Adding.{Answered, Adds, AtomsUnifierOf};
+ghost use Rattle.fo_infer.specs.inner.Adding.{Answered, Adds, AtomsUnifierOf};
 
 use crate::adding::add;
 use crate::concluding::conclude_alone;

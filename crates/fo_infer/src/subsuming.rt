@@ -3,7 +3,7 @@ ghost use Rattle.fo_terms.specs.Substitution.{put, put_atom, put_literal};
 ghost use Rattle.fo_unify.specs.Shown.{as_binds};
 ghost use Rattle.fo_unify.specs.Match.{Unique};
 ghost use Rattle.fo_infer.specs.Subsumption.{Subsumes};
-ghost use Rattle.fo_infer.specs.Covering.{Narrows, Covers, CoversBy};
+ghost use Rattle.fo_infer.specs.inner.Covering.{Narrows, Covers, CoversBy};
 
 use fo_terms::{Atom, Clause, FoTerm, Literal};
 use fo_unify::{Held, match_into};

@@ -11,7 +11,7 @@ use Rattle.fo_terms.specs.Same.{is_literal}
 use Rattle.fo_terms.specs.declared.term.FoTerm.{FoTerm}
 use Rattle.fo_terms.specs.declared.atom.Atom.TheVariants.{Holds, Eq}
 use Rattle.fo_terms.specs.Normal.{is_refuted, firsts, lasting, variables_of, atom_terms, literal_variables, clause_variables}
-use Rattle.fo_terms.specs.Gathered.{added, all_added, kept, lent}
+use Rattle.fo_terms.specs.inner.Gathered.{added, all_added, kept, lent}
 use Rattle.fo_terms.proofs.Sameness.{is_literal_sound}
 use Rattle.fo_terms.proofs.Substitution.{equal_from, map_map}
 

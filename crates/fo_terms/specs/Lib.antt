@@ -2,5 +2,5 @@ pub mod Weight
 pub mod Substitution
 pub mod Same
 pub mod Normal
-pub mod Gathered
 pub mod NormalLaws
+pub mod inner

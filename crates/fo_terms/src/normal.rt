@@ -3,7 +3,7 @@ ghost use Rattle.std.specs.List.{list_any, concat};
 ghost use Rattle.fo_terms.specs.Same.{is_atom, is_literal};
 ghost use Rattle.fo_terms.specs.Substitution.{put, put_atom, put_literals};
 ghost use Rattle.fo_terms.specs.Normal.{is_identity, is_refuted, lasting, variables_of, literal_variables, clause_variables, firsts, place_of, numbering, normal_of, complement, is_tautology};
-ghost use Rattle.fo_terms.specs.Gathered.{lent, kept, added, all_added};
+ghost use Rattle.fo_terms.specs.inner.Gathered.{lent, kept, added, all_added};
 
 use crate::{Atom, Clause, FoTerm, Literal};
 use std::alloc::Global;

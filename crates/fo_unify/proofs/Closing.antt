@@ -9,7 +9,7 @@ use Rattle.fo_unify.specs.declared.subst.Bind.{Bind}
 use Rattle.fo_terms.specs.Substitution.{var, put, occurs_in}
 use Rattle.fo_unify.specs.Lookup.{lookup, term_of}
 use Rattle.fo_unify.specs.Unifier.{Unifies, IsSolved, IsMostGeneral}
-use Rattle.fo_unify.specs.Triangle.{one, extended, solved_from, solution, Ready, GoodFrom, Good, resolved_bind, resolved, Solves}
+use Rattle.fo_unify.specs.inner.Triangle.{one, extended, solved_from, solution, Ready, GoodFrom, Good, resolved_bind, resolved, Solves}
 use Rattle.fo_terms.proofs.Substitution.{equal_true, equal_from, put_var, put_absent, occurs_var, unequal, map_map}
 use Rattle.fo_unify.proofs.Triangles.{one_other, absent_one, gone_one, general, solution_solves}
 

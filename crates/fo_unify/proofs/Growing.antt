@@ -5,9 +5,9 @@ use Rattle.fo_terms.specs.declared.term.FoTerm.{FoTerm}
 use Rattle.fo_unify.specs.declared.subst.Bind.{Bind}
 use Rattle.fo_unify.specs.declared.triangle.Held.{Held}
 use Rattle.fo_unify.specs.Unifier.{Unifies}
-use Rattle.fo_unify.specs.Triangle.{Good, Solves}
+use Rattle.fo_unify.specs.inner.Triangle.{Good, Solves}
 use Rattle.fo_unify.specs.Shown.{as_bind, as_binds}
-use Rattle.fo_unify.specs.Leads.{Next}
+use Rattle.fo_unify.specs.inner.Leads.{Next}
 use Rattle.fo_unify.proofs.Triangles.{good_push, solves_push, solves_front}
 use Rattle.fo_terms.specs.Substitution.{var}
 

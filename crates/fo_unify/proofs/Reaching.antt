@@ -4,7 +4,7 @@ use Rattle.fo_terms.specs.declared.term.FoTerm.{FoTerm}
 use Rattle.fo_terms.specs.Weight.{size_of}
 use Rattle.fo_unify.specs.declared.subst.Bind.{Bind}
 use Rattle.fo_terms.specs.Substitution.{var, fun, put, occurs_in, occurs_in_any}
-use Rattle.fo_unify.specs.Triangle.{solution, Good, walked}
+use Rattle.fo_unify.specs.inner.Triangle.{solution, Good, walked}
 use Rattle.std.specs.Prelude.{sum_by}
 use Rattle.std.proofs.Common.{length, get_or}
 use Rattle.std.proofs.lemmas.List.Sums.{sum-map, get_or-le-sum_by}

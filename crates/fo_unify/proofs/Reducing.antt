@@ -13,10 +13,10 @@ use Rattle.fo_unify.specs.declared.triangle.Found.{Found}
 use Rattle.fo_unify.specs.declared.triangle.Found.TheVariants.{Done, Clash, Binds}
 use Rattle.fo_terms.specs.Substitution.{var, fun, put, occurs_in}
 use Rattle.fo_unify.specs.Unifier.{Equates, Unifies}
-use Rattle.fo_unify.specs.Triangle.{IsRoot, solution, Good, walked, Solves, left_size}
+use Rattle.fo_unify.specs.inner.Triangle.{IsRoot, solution, Good, walked, Solves, left_size}
 use Rattle.fo_unify.specs.Shown.{shown}
 use Rattle.fo_unify.specs.Unified.{put_sides, bound_by, Unified}
-use Rattle.fo_unify.specs.Leads.{Under, Next, Carries, Binding, BoundTo, Goes}
+use Rattle.fo_unify.specs.inner.Leads.{Under, Next, Carries, Binding, BoundTo, Goes}
 use Rattle.fo_terms.proofs.Heads.{fun_same}
 use Rattle.fo_terms.proofs.Induction.{by_cases}
 use Rattle.fo_terms.proofs.Substitution.{put_var, put_fun, occurs_var, size_var, sum_cons, no_cycle, equal_from}

@@ -7,8 +7,8 @@ use Rattle.fo_terms.proofs.Substitution.{put_put, put_itself, put_var}
 use Rattle.fo_unify.specs.declared.subst.Bind.{Bind}
 use Rattle.fo_unify.specs.Lookup.{lookup, term_of}
 use Rattle.fo_unify.specs.Unified.{put_sides, bound_by, Unified}
-use Rattle.fo_unify.specs.Triangle.{one, extended, solved_from, solution, GoodFrom, Good, resolved_bind, resolved}
-use Rattle.fo_unify.specs.Leads.{Binding}
+use Rattle.fo_unify.specs.inner.Triangle.{one, extended, solved_from, solution, GoodFrom, Good, resolved_bind, resolved}
+use Rattle.fo_unify.specs.inner.Leads.{Binding}
 use Rattle.fo_unify.proofs.Triangles.{extends_term, one_other}
 use Rattle.fo_unify.proofs.RuleSteps.{put_sides-itself, finished_from, finished_push}
 

@@ -8,8 +8,8 @@ use Rattle.fo_terms.proofs.Substitution.{put_put, put_itself}
 use Rattle.fo_unify.specs.declared.subst.Bind.{Bind}
 use Rattle.fo_unify.specs.Lookup.{term_of}
 use Rattle.fo_unify.specs.Unified.{put_sides, bound_by, Unified, done, same, turned, parts, bound}
-use Rattle.fo_unify.specs.Triangle.{one, extended, solved_from, solution}
-use Rattle.fo_unify.specs.Leads.{Carries, Binding}
+use Rattle.fo_unify.specs.inner.Triangle.{one, extended, solved_from, solution}
+use Rattle.fo_unify.specs.inner.Leads.{Carries, Binding}
 use Rattle.fo_unify.proofs.Closing.{term_of_one}
 
 pub put_sides-append : (u : ℕ → FoTerm) (es fs : List (FoTerm × FoTerm)) → put_sides u (es ++ fs) ≡ put_sides u es ++ put_sides u fs

@@ -5,7 +5,7 @@ use Rattle.fo_terms.specs.declared.term.FoTerm.TheOpen.{FoTerm-F}
 use Rattle.fo_terms.specs.declared.term.FoTerm.TheVariants.{outs-Var, outs-Fun}
 use Rattle.fo_unify.specs.declared.subst.Bind.{Bind}
 use Rattle.fo_terms.specs.Substitution.{var, fun, put, occurs_in}
-use Rattle.fo_unify.specs.Triangle.{one, extended, solved_from, solution, IsRoot, Ready, GoodFrom, Good, stepped_at, stepped, walked, Solves}
+use Rattle.fo_unify.specs.inner.Triangle.{one, extended, solved_from, solution, IsRoot, Ready, GoodFrom, Good, stepped_at, stepped, walked, Solves}
 use Rattle.fo_terms.proofs.Heads.{fun_no_var, var_same}
 use Rattle.fo_terms.proofs.Induction.{by_cases}
 use Rattle.fo_terms.proofs.Substitution.{put_var, put_put, put_itself, put_agree, put_absent, occurs_var, equal_true, equal_from, unequal}

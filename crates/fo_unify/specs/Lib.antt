@@ -3,5 +3,4 @@ pub mod Unifier
 pub mod Unified
 pub mod Match
 pub mod Shown
-pub mod Triangle
-pub mod Leads
+pub mod inner

@@ -1,6 +1,6 @@
 ghost use Rattle.std.specs.Prelude.{◌≡◌, [], ◌∷◌, IfOk, map};
 ghost use Rattle.fo_terms.specs.Substitution.{put};
-ghost use Rattle.fo_unify.specs.Triangle.{Good, solution, resolved};
+ghost use Rattle.fo_unify.specs.inner.Triangle.{Good, solution, resolved};
 ghost use Rattle.fo_unify.specs.Shown.{as_binds, shown};
 ghost use Rattle.fo_unify.specs.Unifier.{UnifierOf};
 ghost use Rattle.fo_unify.specs.Unified.{MadeByRules};

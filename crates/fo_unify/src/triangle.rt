@@ -1,9 +1,9 @@
 ghost use Rattle.std.specs.Prelude.{◌≡◌, ◌++◌, IfOk, OnOk, map, length};
 ghost use Rattle.std.specs.List.{zip};
 ghost use Rattle.fo_terms.specs.Substitution.{put, occurs_in, occurs_in_any};
-ghost use Rattle.fo_unify.specs.Triangle.{walked, stepped, Good, solution};
+ghost use Rattle.fo_unify.specs.inner.Triangle.{walked, stepped, Good, solution};
 ghost use Rattle.fo_unify.specs.Shown.{as_bind, as_binds, shown};
-ghost use Rattle.fo_unify.specs.Leads.{BoundTo, Goes, Leads};
+ghost use Rattle.fo_unify.specs.inner.Leads.{BoundTo, Goes, Leads};
 
 use fo_terms::FoTerm;
 use text_kit::{NoMemory, Rows};

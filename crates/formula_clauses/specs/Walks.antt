@@ -5,7 +5,7 @@ use Rattle.hol_terms.specs.declared.term.Term.{Term, roll-Term}
 use Rattle.hol_terms.specs.declared.term.Term.TheOpen.{Term-F}
 use Rattle.kernel_rules.specs.Connectives.{neg, lambda}
 use Rattle.lambda_lift.specs.declared.table.Aux.{Aux}
-use Rattle.formula_clauses.specs.declared.literal.TypedLiteral.{TypedLiteral}
+use Rattle.hol_terms.specs.declared.literal.TypedLiteral.{TypedLiteral}
 use Rattle.hol_formulas.specs.declared.formula.Junction.{Junction}
 use Rattle.hol_formulas.specs.declared.formula.Junction.TheVariants as junctions
 use Rattle.hol_formulas.specs.declared.formula.Quantifier.{Quantifier}

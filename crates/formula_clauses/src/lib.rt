@@ -9,7 +9,6 @@ mod fault;
 mod fitting;
 mod listing;
 mod lists;
-mod literal;
 mod measuring;
 mod scope;
 mod sizes;
@@ -18,8 +17,8 @@ mod variables;
 pub use clausifying::clausify;
 pub use fault::ClauseFault;
 pub use fitting::fits;
+pub use hol_terms::TypedLiteral;
 pub use lists::{Clause, Clauses};
-pub use literal::TypedLiteral;
 
 #[cfg(test)]
 mod tests;

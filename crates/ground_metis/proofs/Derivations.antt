@@ -9,7 +9,7 @@ use Rattle.ground_metis.specs.declared.line.Origin.TheVariants.{Input, Resolve}
 use Rattle.ground_metis.specs.declared.search.Offered.{Offered}
 use Rattle.ground_metis.specs.declared.search.Offered.TheVariants.{Kept, Passed, Empty, Full}
 use Rattle.ground_metis.specs.Ground.{Clause, AllIn, FollowsAs, Follows, FollowsFrom, IsDerivation}
-use Rattle.ground_metis.specs.Searches.{Offers, IsGood, Leads, IsLineAfter}
+use Rattle.ground_metis.specs.inner.Searches.{Offers, IsGood, Leads, IsLineAfter}
 use Rattle.ground_metis.proofs.Places.{get_front, get_pushed}
 
 -- a line follows from more lines too

@@ -1,5 +1,4 @@
 pub mod Ground
-pub mod Searches
 pub mod Formulas
-pub mod Splits
 pub mod Derived
+pub mod inner

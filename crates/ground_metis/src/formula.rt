@@ -1,7 +1,7 @@
 ghost use Rattle.std.specs.Prelude.{◌≡◌, ◌≢◌, ◌++◌, [], List, IfOk, IfSome, IsTrue, is_some};
 ghost use Rattle.ground_metis.specs.Formulas.{alone, applied, atom_in, atom_term, clause_of, is_clause as is_one, clause_term, literal_term, clause_upto, denied_in, literal_of, sides_half, sides_left, sides_of};
 ghost use Rattle.ground_metis.specs.declared.clause.Lit.{Lit};
-ghost use Rattle.ground_metis.specs.Splits.{Joins, Says, ShownAs};
+ghost use Rattle.ground_metis.specs.inner.Splits.{Joins, Says, ShownAs};
 ghost use Rattle.hol_terms.specs.declared.term.Term.{out-Term};
 
 use crate::Lit;

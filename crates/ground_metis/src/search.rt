@@ -1,5 +1,5 @@
 ghost use Rattle.std.specs.Prelude.{◌≡◌, [], IfOk, IfSome};
-ghost use Rattle.ground_metis.specs.Searches.{IsEnd, IsGood, IsLineAfter, Leads, Offers};
+ghost use Rattle.ground_metis.specs.inner.Searches.{IsEnd, IsGood, IsLineAfter, Leads, Offers};
 
 use crate::clause::{greatest, is_part, is_tautology};
 use crate::resolvent::{resolvent, without_repeats};

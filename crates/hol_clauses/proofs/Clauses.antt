@@ -6,7 +6,7 @@ use Rattle.hyp_sets.specs.Sets.{TermSet, set_of, only, Holds, Among, image}
 use Rattle.hyp_sets.proofs.Members.{holds_union, in_left, in_right, holds_remove, holds_first, in_first, in_rest, none_held, holds_only, among_union, among_trans}
 use Rattle.hyp_sets.proofs.Images.{holds_image, in_map}
 use Rattle.kernel_rules.specs.Connectives.{neg}
-use Rattle.hol_clauses.specs.declared.literal.TypedLiteral.{TypedLiteral}
+use Rattle.hol_terms.specs.declared.literal.TypedLiteral.{TypedLiteral}
 use Rattle.hol_clauses.specs.Literals.{denied, allowed, positive, negative, with_atom}
 use Rattle.hol_clauses.specs.Laws.{MayComeAgain, ResolventLands, ReflexivityLands, ParamodulantLands}
 

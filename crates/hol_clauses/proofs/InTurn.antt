@@ -11,7 +11,7 @@ use Rattle.hol_terms.proofs.TermCases.{by_cases}
 use Rattle.hol_terms.proofs.Equations.{put_free-bound, put_free-free, put_free-con, put_free-app, put_free-lam}
 use Rattle.hyp_sets.specs.Sets.{TermSet, Holds, Among, image}
 use Rattle.kernel_rules.specs.Connectives.{neg, apply, constant}
-use Rattle.hol_clauses.specs.declared.literal.TypedLiteral.{TypedLiteral}
+use Rattle.hol_terms.specs.declared.literal.TypedLiteral.{TypedLiteral}
 use Rattle.hol_clauses.specs.declared.binding.Binding.{Binding}
 use Rattle.hol_clauses.specs.Literals.{denied, allowed}
 use Rattle.hol_clauses.specs.Bindings.{put_one, in_turn, looked_up, Solved}

@@ -22,7 +22,7 @@ use Rattle.hol_kernel.specs.Conditions.{own_ty, IsGiven}
 use Rattle.hol_derived.specs.Paths.{part_at, replaced_at}
 use Rattle.hol_derived.proofs.Unions.{union_turned, none_joined}
 use Rattle.hol_derived.proofs.Expansions.{own_is, own_given, left_part, right_part, left_replaced, right_replaced}
-use Rattle.hol_clauses.specs.declared.literal.TypedLiteral.{TypedLiteral}
+use Rattle.hol_terms.specs.declared.literal.TypedLiteral.{TypedLiteral}
 use Rattle.hol_clauses.specs.Literals.{denied, source, target, with_atom}
 
 -- ---- the left side of an equation

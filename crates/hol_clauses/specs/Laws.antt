@@ -5,7 +5,7 @@ use Rattle.hol_terms.specs.declared.term.Term.{Term}
 use Rattle.hol_terms.specs.Substitution.{put_free}
 use Rattle.hyp_sets.specs.Sets.{TermSet, set_of, only, Holds, Among, image}
 use Rattle.kernel_rules.specs.Connectives.{neg}
-use Rattle.hol_clauses.specs.declared.literal.TypedLiteral.{TypedLiteral}
+use Rattle.hol_terms.specs.declared.literal.TypedLiteral.{TypedLiteral}
 use Rattle.hol_clauses.specs.declared.binding.Binding.{Binding}
 use Rattle.hol_clauses.specs.Literals.{denied, positive, negative, with_atom, allowed}
 use Rattle.hol_clauses.specs.Bindings.{in_turn, looked_up, Solved}

@@ -4,7 +4,7 @@ use Rattle.std.specs.FinSet as set
 use Rattle.hol_terms.specs.declared.term.Term.{Term}
 use Rattle.hyp_sets.specs.Sets.{TermSet, set_of, Among}
 use Rattle.kernel_rules.specs.Connectives.{neg, left_of, right_of}
-use Rattle.hol_clauses.specs.declared.literal.TypedLiteral.{TypedLiteral}
+use Rattle.hol_terms.specs.declared.literal.TypedLiteral.{TypedLiteral}
 
 -- the negation of a literal, without a double one
 abbrev pub denied : TypedLiteral → Term

@@ -1,17 +1,10 @@
 ghost use Rattle.std.specs.Prelude.{◌≡◌, IfOk};
 ghost use Rattle.hol_clauses.specs.Literals.{denied as denied_of};
 
-use hol_terms::{Term, copy};
+use hol_terms::{Term, TypedLiteral, copy};
 use kernel_rules::negation;
 use std::alloc::Global;
 use text_kit::NoMemory;
-
-/// A literal over typed terms: an atom or its negation.
-#[derive(Debug, Drop)]
-pub struct TypedLiteral {
-    pub positive: bool,
-    pub atom: Term,
-}
 
 /// The negation of a literal, without a double one: what the theorem of its clause has as a hypothesis.
 pub fn denied(alloc: Global, l: &TypedLiteral) -> Result<Term, NoMemory>

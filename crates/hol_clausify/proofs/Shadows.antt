@@ -13,7 +13,7 @@ use Rattle.hol_formulas.specs.declared.formula.Junction.TheVariants as junctions
 use Rattle.hol_formulas.specs.declared.formula.Formula.{Formula, roll-Formula}
 use Rattle.hol_formulas.specs.declared.formula.Formula.TheOpen.{Formula-F}
 use Rattle.hol_formulas.specs.declared.formula.Formula.TheFolds.{fold-roll-Formula}
-use Rattle.formula_clauses.specs.declared.literal.TypedLiteral.{TypedLiteral}
+use Rattle.hol_terms.specs.declared.literal.TypedLiteral.{TypedLiteral}
 use Rattle.formula_clauses.specs.Choices.{put_in}
 use Rattle.formula_clauses.specs.Walks.{Clauses, Progress, Pass, walked, both, joined, appended, junction_pass}
 use Rattle.hol_clausify.specs.Places.{junction, term_of, IsRead}

@@ -8,7 +8,7 @@ use Rattle.lambda_lift.specs.declared.table.Aux.{Aux}
 use Rattle.lambda_lift.specs.Tables.{expand}
 use Rattle.lambda_lift.specs.Standing.{Each, aux_below}
 use Rattle.hol_formulas.specs.declared.formula.Formula.{Formula}
-use Rattle.formula_clauses.specs.declared.literal.TypedLiteral.{TypedLiteral}
+use Rattle.hol_terms.specs.declared.literal.TypedLiteral.{TypedLiteral}
 use Rattle.formula_clauses.specs.Choices.{put_in}
 use Rattle.formula_clauses.specs.Walks.{Clauses, Progress, Walked, walked}
 use Rattle.hol_clausify.specs.Places.{term_of, IsRead}

@@ -7,12 +7,11 @@ use Rattle.kernel_rules.specs.Connectives.{falsum, neg}
 use Rattle.kernel_rules.specs.Derivations.{leaves}
 use Rattle.hol_kernel.specs.Logs.{Logged, IsThm, thm, fact_at}
 use Rattle.hol_kernel.specs.Growth.{SameFacts}
-use Rattle.hol_clauses.specs.declared.literal.TypedLiteral as meant
 use Rattle.hol_clauses.specs.Literals.{allowed}
 use Rattle.lambda_lift.specs.declared.table.Aux.{Aux}
 use Rattle.lambda_lift.specs.Tables.{expand}
 use Rattle.lambda_lift.specs.Standing.{Each, StandsAlone}
-use Rattle.formula_clauses.specs.declared.literal.TypedLiteral.{TypedLiteral}
+use Rattle.hol_terms.specs.declared.literal.TypedLiteral.{TypedLiteral}
 use Rattle.formula_clauses.specs.declared.fault.ClauseFault.{ClauseFault}
 use Rattle.formula_clauses.specs.declared.fault.ClauseFault.TheVariants.{TooLarge, NoMemory}
 use Rattle.formula_clauses.specs.Walks.{Clauses}
@@ -21,7 +20,7 @@ use Rattle.formula_clauses.specs.Clausified.{IsClausified}
 use Rattle.hol_clausify.specs.declared.source.Source.{Source}
 
 -- the literal as the kernel has it: its auxiliary constants expanded
-abbrev pub meaning : List Aux → TypedLiteral → meant.TypedLiteral
+abbrev pub meaning : List Aux → TypedLiteral → TypedLiteral
 meaning table l = record { positive = l.positive; atom = expand table l.atom }
 
 -- the theorem concludes `false` from the base and the negated literals

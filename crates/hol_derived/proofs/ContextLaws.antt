@@ -18,7 +18,7 @@ use Rattle.kernel_rules.specs.Rules.{is_given}
 use Rattle.kernel_rules.proofs.Parts.{is_lambda-lambda, body_of-lambda, equal_is}
 use Rattle.kernel_rules.proofs.TypedTerms.{equal_sides}
 use Rattle.hol_derived.specs.Paths.{part_at, replaced_at}
-use Rattle.hol_derived.specs.Contexts.{IsContext}
+use Rattle.hol_derived.specs.inner.Contexts.{IsContext}
 use Rattle.hol_derived.proofs.Holes.{gap, whole_again, hole_filled, hole_typed, hole_aux_free}
 
 pub applied_lambda : (a : Ty) (b u : Term) → applied_to (lambda a b) u ≡ put u b 0

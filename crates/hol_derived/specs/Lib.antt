@@ -1,3 +1,3 @@
 pub mod Paths
-pub mod Contexts
 pub mod Contractions
+pub mod inner

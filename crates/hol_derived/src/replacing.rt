@@ -5,7 +5,7 @@ ghost use Rattle.kernel_rules.specs.Rules.{seq};
 ghost use Rattle.hol_kernel.specs.Logs.{IsThm, thm};
 ghost use Rattle.hol_kernel.specs.Growth.{Extends, Gives, SameFacts};
 ghost use Rattle.hol_derived.specs.Paths.{part_at, replaced_at};
-ghost use Rattle.hol_derived.specs.Contexts.{IsContext};
+ghost use Rattle.hol_derived.specs.inner.Contexts.{IsContext};
 
 use hol_kernel::{Log, ThmId};
 use hol_terms::{Term, copy};

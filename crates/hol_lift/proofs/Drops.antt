@@ -14,7 +14,7 @@ use Rattle.hol_kernel.specs.Logs.{Logged, IsThm, thm}
 use Rattle.hol_kernel.specs.Growth.{Extends, Gives, SameFacts}
 use Rattle.hol_kernel.proofs.Growing.{extends_refl, extends_trans}
 use Rattle.tagged_lines.specs.TypedLiterals.{IsIn}
-use Rattle.hol_clauses.specs.declared.literal.TypedLiteral.{TypedLiteral}
+use Rattle.hol_terms.specs.declared.literal.TypedLiteral.{TypedLiteral}
 use Rattle.clause_instances.proofs.Answered.{if_ok_map}
 use Rattle.hol_lift.specs.inner.Typed.{AllFormulas, Drops, IsRefuted}
 use Rattle.hol_lift.proofs.Members.{in_append}

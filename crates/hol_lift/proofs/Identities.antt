@@ -9,7 +9,7 @@ use Rattle.kernel_rules.proofs.Parts.{equal_is, is_equal-equal, left_of-two, rig
 use Rattle.kernel_rules.proofs.TypedTerms.{equal_sides, equal_aux_free}
 use Rattle.hol_kernel.specs.Conditions.{own_ty, IsGiven}
 use Rattle.hol_derived.proofs.Expansions.{own_is, own_given}
-use Rattle.hol_clauses.specs.declared.literal.TypedLiteral.{TypedLiteral}
+use Rattle.hol_terms.specs.declared.literal.TypedLiteral.{TypedLiteral}
 use Rattle.hol_lift.specs.inner.Typed.{IsIdentity, IsRefuted}
 
 pub identity_from : (t s u : Term) → IsTrue (is_equal t) → s ≡ left_of t → u ≡ right_of t → s ≡ u → IsIdentity t

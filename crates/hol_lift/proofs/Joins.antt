@@ -20,7 +20,7 @@ use Rattle.hol_kernel.specs.Growth.{Gives}
 use Rattle.hol_derived.specs.Paths.{part_at, replaced_at}
 use Rattle.hol_derived.proofs.ContextLaws.{context_is}
 use Rattle.tagged_lines.specs.TypedLiterals.{IsIn}
-use Rattle.hol_clauses.specs.declared.literal.TypedLiteral.{TypedLiteral}
+use Rattle.hol_terms.specs.declared.literal.TypedLiteral.{TypedLiteral}
 use Rattle.hol_clauses.specs.Literals.{denied, positive, negative, with_atom, source, target, allowed}
 use Rattle.hol_clauses.proofs.Clauses.{resolvent, paramodulant}
 use Rattle.clause_instances.proofs.Answered.{if_ok_map}

@@ -14,7 +14,7 @@ use Rattle.tagged_lines.specs.Variables.{lasting_variables}
 use Rattle.tagged_lines.specs.Lifted.{factored}
 use Rattle.kernel_rules.specs.declared.step.ThmId.{ThmId}
 use Rattle.hol_kernel.specs.Logs.{Logged}
-use Rattle.hol_clauses.specs.declared.literal.TypedLiteral.{TypedLiteral}
+use Rattle.hol_terms.specs.declared.literal.TypedLiteral.{TypedLiteral}
 use Rattle.clause_instances.specs.Images.{image}
 use Rattle.clause_instances.specs.Theorems.{clause_of, HasInstance, Lands}
 use Rattle.hol_lift.specs.inner.Typed.{Last}

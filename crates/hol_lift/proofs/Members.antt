@@ -6,7 +6,7 @@ use Rattle.hol_terms.specs.declared.term.Term.{Term}
 use Rattle.hyp_sets.specs.Sets.{TermSet, set_of, Holds, Among}
 use Rattle.hyp_sets.proofs.Members.{holds_first, in_first, in_rest, none_held}
 use Rattle.tagged_lines.specs.TypedLiterals.{IsIn}
-use Rattle.hol_clauses.specs.declared.literal.TypedLiteral.{TypedLiteral}
+use Rattle.hol_terms.specs.declared.literal.TypedLiteral.{TypedLiteral}
 use Rattle.hol_clauses.specs.Literals.{denied, allowed}
 use Rattle.hol_clauses.proofs.Clauses.{allowed_more}
 

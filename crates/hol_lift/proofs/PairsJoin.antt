@@ -12,7 +12,7 @@ use Rattle.kernel_rules.specs.Connectives.{falsum}
 use Rattle.hol_kernel.specs.Logs.{Logged, IsThm, thm}
 use Rattle.hol_kernel.specs.Growth.{Extends}
 use Rattle.hol_kernel.proofs.Growing.{thm_stays}
-use Rattle.hol_clauses.specs.declared.literal.TypedLiteral.{TypedLiteral}
+use Rattle.hol_terms.specs.declared.literal.TypedLiteral.{TypedLiteral}
 use Rattle.hol_clauses.specs.Literals.{allowed}
 use Rattle.clause_instances.specs.Theorems.{clause_of, Lands}
 use Rattle.clause_instances.proofs.Answered.{if_ok_map}

@@ -29,7 +29,7 @@ use Rattle.tagged_lines.proofs.Alone.{inputs_lift, factoring_lifts, reflexivity_
 use Rattle.hyp_sets.proofs.Members.{among_trans}
 use Rattle.kernel_rules.specs.declared.step.ThmId.{ThmId}
 use Rattle.hol_kernel.specs.Logs.{Logged, thm}
-use Rattle.hol_clauses.specs.declared.literal.TypedLiteral.{TypedLiteral}
+use Rattle.hol_terms.specs.declared.literal.TypedLiteral.{TypedLiteral}
 use Rattle.hol_clauses.specs.Literals.{allowed}
 use Rattle.clause_instances.specs.Images.{named, image}
 use Rattle.clause_instances.specs.Theorems.{as_literal, clause_of, Lands, HasInstance}

@@ -9,7 +9,7 @@ ghost use Rattle.tagged_terms.specs.Readings.{signs_of};
 ghost use Rattle.kernel_rules.specs.Connectives.{falsum};
 ghost use Rattle.hol_kernel.specs.Logs.{IsThm, thm};
 ghost use Rattle.hol_kernel.specs.Growth.{Extends, SameFacts};
-ghost use Rattle.hol_clauses.specs.declared.literal.TypedLiteral.{TypedLiteral};
+ghost use Rattle.hol_terms.specs.declared.literal.TypedLiteral.{TypedLiteral};
 ghost use Rattle.clause_instances.specs.Images.{image};
 ghost use Rattle.clause_instances.specs.Theorems.{clause_of, HasInstance, Lands};
 ghost use Rattle.hol_lift.specs.inner.Typed.{Last};

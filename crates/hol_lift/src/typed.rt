@@ -8,7 +8,7 @@ ghost use Rattle.kernel_rules.specs.Rules.{seq};
 ghost use Rattle.hol_kernel.specs.Logs.{IsThm, thm};
 ghost use Rattle.hol_kernel.specs.Growth.{Extends, SameFacts};
 ghost use Rattle.hol_derived.specs.Paths.{part_at};
-ghost use Rattle.hol_clauses.specs.declared.literal.TypedLiteral.{TypedLiteral};
+ghost use Rattle.hol_terms.specs.declared.literal.TypedLiteral.{TypedLiteral};
 ghost use Rattle.hol_clauses.specs.Literals.{source, target};
 ghost use Rattle.hol_lift.specs.inner.Typed.{AllFormulas, Last, Joins, Opposed, Rewrites, rewritten as rewritten_literal, Paramodulated};
 

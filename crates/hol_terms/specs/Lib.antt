@@ -1,9 +1,9 @@
 pub mod Types
 pub mod Typing
-pub mod Binders
 pub mod Substitution
 pub mod Formulas
 pub mod Laws
 pub mod Envs
 pub mod Weights
 pub mod Order
+pub mod inner

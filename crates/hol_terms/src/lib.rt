@@ -6,6 +6,7 @@ mod fault;
 mod formula;
 mod konst;
 mod laws;
+mod literal;
 mod order;
 mod sig;
 mod subst;
@@ -23,6 +24,7 @@ pub use laws::{
     abstraction_keeps_types, closed_has_one_type, replacement_keeps_types,
     substitution_keeps_types, typed_is_closed,
 };
+pub use literal::TypedLiteral;
 pub use order::compare;
 pub use sig::Sig;
 pub use subst::{abstract_over, free_in, instantiate, put_free};

@@ -2,7 +2,7 @@ ghost use Rattle.std.specs.Prelude.{◌≡◌, IfOk, slice_get, Some, None};
 ghost use Rattle.std.specs.Option.{option_copied};
 ghost use Rattle.hol_terms.specs.Types.{ty_fits, bool_ty, function_ty};
 ghost use Rattle.hol_terms.specs.Typing.{type_in, type_of_term, konst_type, applied, under, checked, fitting, Answers};
-ghost use Rattle.hol_terms.specs.Binders.{binder_types};
+ghost use Rattle.hol_terms.specs.inner.Binders.{binder_types};
 
 use crate::ty::arrow;
 use crate::{Konst, Sig, Term, Ty, TypeFault, copy_ty, same_ty};

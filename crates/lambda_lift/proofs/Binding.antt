@@ -7,7 +7,7 @@ use Rattle.hol_terms.proofs.Preserves.{slice_get_front}
 use Rattle.hol_terms.proofs.Substitutes.{get_middle}
 use Rattle.std.proofs.lemmas.Option.{slice_get_past}
 use Rattle.lambda_lift.specs.Closing.{variables, lambda_of}
-use Rattle.lambda_lift.specs.Marks.{index_in}
+use Rattle.lambda_lift.specs.inner.Marks.{index_in}
 use Rattle.lambda_lift.proofs.Occurring.{taken, passed}
 
 -- the places of the variables below `v`; `next` of these pass

@@ -11,7 +11,7 @@ use Rattle.hol_terms.specs.declared.term.Term.TheOpen.{Term-F}
 use Rattle.lambda_lift.specs.declared.table.Aux.{Aux}
 use Rattle.lambda_lift.specs.Tables.{place, with_entry, own_ty}
 use Rattle.lambda_lift.specs.Closing.{closed_over, occurs_in, variables, applied_to}
-use Rattle.lambda_lift.specs.Marks.{passes}
+use Rattle.lambda_lift.specs.inner.Marks.{passes}
 use Rattle.lambda_lift.specs.Walks.{Walk, Stage, Walked, reading, one, both, scope, apply, lifted_out}
 use Rattle.lambda_lift.specs.Views.{stage, ends}
 use Rattle.lambda_lift.proofs.Made.{bound_is, free_is, con_is, lam_is}

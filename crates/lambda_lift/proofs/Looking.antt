@@ -12,7 +12,7 @@ use Rattle.hol_terms.specs.declared.term.Term.{Term}
 use Rattle.lambda_lift.specs.declared.table.Aux.{Aux}
 use Rattle.lambda_lift.specs.Keys.{key, is_same}
 use Rattle.lambda_lift.specs.Tables.{closed_terms, place, with_entry}
-use Rattle.lambda_lift.specs.Places.{IsNew, Numbers}
+use Rattle.lambda_lift.specs.inner.Places.{IsNew, Numbers}
 
 -- ---- tests over a mapped list
 module _ {X Y : Type 0} (f : X → Y) (p : Y → Bool) where

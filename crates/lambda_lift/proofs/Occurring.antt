@@ -9,7 +9,7 @@ use Rattle.hol_terms.specs.declared.term.Term.{Term, roll-Term}
 use Rattle.hol_terms.specs.declared.term.Term.TheOpen.{Term-F}
 use Rattle.hol_terms.specs.declared.term.Term.TheFolds.{the_lemmas}
 use Rattle.lambda_lift.specs.Closing.{variables, lambda_of, occurs_behind, occurs_in, renamed, lambdas, ty_at, closed_over, applied_to}
-use Rattle.lambda_lift.specs.Marks.{passes, MarksMore, index_in}
+use Rattle.lambda_lift.specs.inner.Marks.{passes, MarksMore, index_in}
 
 module _ (p : ℕ → Bool) where
   pub taken : (v : ℕ) → p v ≡ true → variables p (v + 1) ≡ v ∷ variables p v

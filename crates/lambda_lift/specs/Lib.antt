@@ -8,8 +8,7 @@ pub mod Wholes
 pub mod Contractions
 pub mod Redexes
 pub mod Scopes
-pub mod Marks
 pub mod Views
-pub mod Places
 pub mod Laws
 pub mod Standing
+pub mod inner

@@ -3,7 +3,7 @@ ghost use Rattle.hol_terms.specs.declared.term.Term.{roll-Term};
 ghost use Rattle.hol_terms.specs.declared.term.Term.TheOpen.{Term-F};
 ghost use Rattle.lambda_lift.specs.Scopes.{scope_types};
 ghost use Rattle.lambda_lift.specs.Closing.{occurs_in, variables, lambda_of, renamed, lambdas, ty_at, applied_to, closed_over};
-ghost use Rattle.lambda_lift.specs.Marks.{passes, MarksMore, index_in};
+ghost use Rattle.lambda_lift.specs.inner.Marks.{passes, MarksMore, index_in};
 
 use crate::scope::{Scope, nth};
 use hol_terms::{Term, Ty, copy_konst, copy_ty};

@@ -4,7 +4,7 @@ ghost use Rattle.hol_terms.specs.Substitution.{is_closed};
 ghost use Rattle.hol_terms.specs.declared.term.Term.{Term};
 ghost use Rattle.lambda_lift.specs.Keys.{key as key_as};
 ghost use Rattle.lambda_lift.specs.Tables.{place, with_entry};
-ghost use Rattle.lambda_lift.specs.Places.{Numbers, IsNew};
+ghost use Rattle.lambda_lift.specs.inner.Places.{Numbers, IsNew};
 
 use crate::keys::key_of;
 use hol_terms::{Term, Ty, copy, copy_ty};

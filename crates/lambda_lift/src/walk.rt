@@ -6,7 +6,7 @@ ghost use Rattle.hol_terms.specs.declared.konst.Konst.TheVariants as konst;
 ghost use Rattle.lambda_lift.specs.Scopes.{scope_types};
 ghost use Rattle.lambda_lift.specs.Tables.{own_ty as type_of_own, place, with_entry};
 ghost use Rattle.lambda_lift.specs.Closing.{occurs_in, closed_over};
-ghost use Rattle.lambda_lift.specs.Marks.{passes};
+ghost use Rattle.lambda_lift.specs.inner.Marks.{passes};
 ghost use Rattle.lambda_lift.specs.Walks.{reading, lifted_out, apply, with_two as two_given};
 ghost use Rattle.lambda_lift.specs.Views.{stage, ends, seen};
 

@@ -15,7 +15,7 @@ use Rattle.metis_core.specs.Offer.{Passed, on, over, End, found, spent}
 use Rattle.metis_core.specs.Search.{position_of, Run, Search, Pick, pick, at_pick, nothing_waits, budget_used}
 use Rattle.metis_core.specs.Stock.{clauses}
 use Rattle.metis_core.specs.Held.{state_of, IsRunning, Told, Ends}
-use Rattle.metis_core.specs.Settled.{Settles}
+use Rattle.metis_core.specs.inner.Settled.{Settles}
 use Rattle.metis_core.specs.Searched.{Searched, StandsAt, IsFound, empty_clause}
 
 -- a search with this stock

@@ -7,6 +7,6 @@ pub mod Ends
 pub mod Print
 pub mod Stock
 pub mod Held
-pub mod Settled
 pub mod Searched
 pub mod Inside
+pub mod inner

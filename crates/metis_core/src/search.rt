@@ -1,5 +1,5 @@
 ghost use Rattle.std.specs.Prelude.{◌≡◌, ◌≢◌, ◌+◌, ◌<◌, ◌≤◌, [], IfOk};
-ghost use Rattle.metis_core.specs.Settled.{Settles};
+ghost use Rattle.metis_core.specs.inner.Settled.{Settles};
 ghost use Rattle.metis_core.specs.Searched.{Stands, IsOpen, IsFound, state};
 ghost use Rattle.metis_core.specs.Closed.{Closed};
 ghost use Rattle.metis_core.specs.Search.{position_of};

@@ -15,8 +15,8 @@ use Rattle.proof_syntax.proofs.Inside.{inside, here, here_in, Refuses, refuses_b
 use Rattle.proof_syntax.proofs.Leads.{Leads, leads_on, leads_both, leads_last}
 use Rattle.proof_syntax.proofs.Numbers.{eq_false}
 use Rattle.proof_syntax.proofs.Complete.{start_step, start_end}
-use Rattle.proof_reader.specs.Words.{Other, FailsWord, FailsLast, openings}
-use Rattle.proof_reader.specs.Parts.{GotStep, BegunStep, FailsStep, StepsSoFar, GotSteps, BegunSteps, first_step, FailsSteps}
+use Rattle.proof_reader.specs.inner.Words.{Other, FailsWord, FailsLast, openings}
+use Rattle.proof_reader.specs.inner.Parts.{GotStep, BegunStep, FailsStep, StepsSoFar, GotSteps, BegunSteps, first_step, FailsSteps}
 use Rattle.proof_reader.proofs.Refuses.{refuses_signs}
 use Rattle.proof_reader.proofs.StepPieces.{step_begun}
 

@@ -19,7 +19,7 @@ use Rattle.proof_syntax.proofs.Complete.{arg_runs}
 use Rattle.proof_syntax.proofs.Numbers.{no_number}
 use Rattle.proof_terms.specs.Fronts.{GotName, FailsName, GotNumber, FailsNumber, NoNumber}
 use Rattle.proof_words.specs.Sharing.{IsNumber}
-use Rattle.proof_reader.specs.Parts.{GotArg, GotArgs, BegunArgs, Wanting, behind_opened, FailsArgs, FailsArg}
+use Rattle.proof_reader.specs.inner.Parts.{GotArg, GotArgs, BegunArgs, Wanting, behind_opened, FailsArgs, FailsArg}
 use Rattle.proof_reader.proofs.Refuses.{refuses_signs}
 
 within_one : (x : Tok) → Within most (at 0 x ∷ [])

@@ -21,8 +21,8 @@ use Rattle.proof_syntax.specs.Parts.{end_of, IsNot, NoWord}
 use Rattle.proof_syntax.proofs.Cutting.{cut_length}
 use Rattle.proof_syntax.proofs.Numbers.{eq_false}
 use Rattle.proof_syntax.proofs.Stops as stops
-use Rattle.proof_reader.specs.Words.{FailsWord}
-use Rattle.proof_reader.specs.Body.{Begins, BodyHalts, FailsBody, GotGoal}
+use Rattle.proof_reader.specs.inner.Words.{FailsWord}
+use Rattle.proof_reader.specs.inner.Body.{Begins, BodyHalts, FailsBody, GotGoal}
 
 -- ---- a body goes on
 

@@ -14,8 +14,8 @@ use Rattle.proof_reader.specs.declared.rule.PairRule.TheVariants as pair
 use Rattle.proof_reader.specs.declared.rule.MixedRule.TheVariants as mixed
 use Rattle.proof_reader.specs.declared.rule.VariableRule.TheVariants as variable
 use Rattle.proof_reader.specs.declared.rule.Rule.TheVariants as any
-use Rattle.proof_reader.specs.Rules.{term_rule, theorem_rule, pair_rule, mixed_rule, variable_rule, rule_of, IsMade}
-use Rattle.proof_reader.specs.Words.{words_of}
+use Rattle.proof_reader.specs.inner.Rules.{term_rule, theorem_rule, pair_rule, mixed_rule, variable_rule, rule_of, IsMade}
+use Rattle.proof_reader.specs.inner.Words.{words_of}
 
 abbrev all : List code.Rule.Rule
 all =

@@ -5,7 +5,7 @@ use Rattle.std.proofs.lemmas.List.{take_rest, length-take-le, get_or-take}
 use Rattle.std.proofs.Math.Seq.{split_at, get_or-append_seam}
 use Rattle.memchr.specs.Find.{IsFirstByte, is_byte}
 use Rattle.proof_syntax.specs.Reading.{first_line, AreLines, NeverStarts}
-use Rattle.proof_reader.specs.Start.{IsBody, NoLineEnd, IsBehindLine}
+use Rattle.proof_reader.specs.inner.Start.{IsBody, NoLineEnd, IsBehindLine}
 
 -- ---- the line at the front
 

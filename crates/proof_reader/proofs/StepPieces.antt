@@ -18,9 +18,9 @@ use Rattle.proof_syntax.proofs.Leads.{Leads, leads_on, leads_both, leads_last}
 use Rattle.proof_syntax.proofs.Complete.{args_runs}
 use Rattle.proof_reader.specs.declared.rule as code
 use Rattle.proof_reader.specs.declared.rule.Rule.TheVariants as any
-use Rattle.proof_reader.specs.Rules.{rule_of, IsMade}
-use Rattle.proof_reader.specs.Words.{Other, FailsWord, words_of}
-use Rattle.proof_reader.specs.Parts.{BegunArgs, Wanting, behind_opened, FailsArgs, GotMade, GotStep, BegunStep, FailsStep}
+use Rattle.proof_reader.specs.inner.Rules.{rule_of, IsMade}
+use Rattle.proof_reader.specs.inner.Words.{Other, FailsWord, words_of}
+use Rattle.proof_reader.specs.inner.Parts.{BegunArgs, Wanting, behind_opened, FailsArgs, GotMade, GotStep, BegunStep, FailsStep}
 use Rattle.proof_reader.proofs.Refuses.{refuses_signs}
 use Rattle.proof_reader.proofs.ArgPieces.{some_args}
 use Rattle.proof_reader.proofs.WordPieces.{not_longer}

@@ -16,9 +16,9 @@ use Rattle.proof_syntax.specs.Machine.{put}
 use Rattle.proof_syntax.specs.Parts.{Exceeds}
 use Rattle.proof_syntax.proofs.Whole.{goal_line}
 use Rattle.proof_syntax.proofs.Stops as places
-use Rattle.proof_reader.specs.Start.{IsBody}
-use Rattle.proof_reader.specs.Parts.{GotSteps, FailsSteps}
-use Rattle.proof_reader.specs.Body.{BodyReads, Begins, BodyHalts, FailsBody, GotGoal}
+use Rattle.proof_reader.specs.inner.Start.{IsBody}
+use Rattle.proof_reader.specs.inner.Parts.{GotSteps, FailsSteps}
+use Rattle.proof_reader.specs.inner.Body.{BodyReads, Begins, BodyHalts, FailsBody, GotGoal}
 
 -- ---- the steps behind the goal's line
 

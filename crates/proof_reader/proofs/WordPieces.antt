@@ -6,7 +6,7 @@ use Rattle.proof_syntax.specs.Tokens.{Tok, Word, cut, spelled}
 use Rattle.proof_syntax.specs.Grammar.{Placed}
 use Rattle.proof_syntax.specs.Machine.{put}
 use Rattle.proof_syntax.proofs.Cutting.{cut_length, spelled_put}
-use Rattle.proof_reader.specs.Words.{FailsWord}
+use Rattle.proof_reader.specs.inner.Words.{FailsWord}
 
 -- a word at the front is no longer than the text
 pub word_within : (text w : List ℕ) (rest : List Tok) → cut text ≡ Word w ∷ rest → length w ≤ length text

@@ -1,5 +1,2 @@
-pub mod Start
-pub mod Rules
-pub mod Words
-pub mod Parts
-pub mod Body
+
+pub mod inner

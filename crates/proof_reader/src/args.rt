@@ -2,7 +2,7 @@ ghost use Rattle.std.specs.Prelude.{◌≡◌, [], ◌∷◌, MatchResult};
 ghost use Rattle.proof_syntax.specs.Names as names;
 ghost use Rattle.proof_syntax.specs.Forms.{FactArg, NumberArg, TypeArg, TermArg};
 ghost use Rattle.proof_syntax.specs.Machine.{FactKind, NumberKind, TypeKind, TermKind};
-ghost use Rattle.proof_reader.specs.Parts.{GotArg, FailsArg, GotArgs, FailsArgs};
+ghost use Rattle.proof_reader.specs.inner.Parts.{GotArg, FailsArg, GotArgs, FailsArgs};
 
 use hol_terms::{Term, Ty};
 use kernel_rules::ThmId;

@@ -1,7 +1,7 @@
 ghost use Rattle.std.specs.Prelude.{◌≡◌, [], ◌∷◌, MatchResult};
 ghost use Rattle.proof_syntax.specs.Names as names;
-ghost use Rattle.proof_reader.specs.Rules.{rule_of, term_rule, theorem_rule, pair_rule, mixed_rule, variable_rule};
-ghost use Rattle.proof_reader.specs.Parts.{GotMade, FailsArgs};
+ghost use Rattle.proof_reader.specs.inner.Rules.{rule_of, term_rule, theorem_rule, pair_rule, mixed_rule, variable_rule};
+ghost use Rattle.proof_reader.specs.inner.Parts.{GotMade, FailsArgs};
 
 use crate::args::{
     fact, term, term_and_theorem, term_and_theorems, terms_and_theorem, theorem, three_theorems,

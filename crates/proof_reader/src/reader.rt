@@ -1,6 +1,6 @@
 ghost use Rattle.std.specs.Prelude.{◌<◌, length, IfOk, MatchResult};
 ghost use Rattle.proof_syntax.specs.Reading.{Answer, IsAnswer, IsReadAs, Tells};
-ghost use Rattle.proof_reader.specs.Body.{GotGoal, BodyReads, FailsBody};
+ghost use Rattle.proof_reader.specs.inner.Body.{GotGoal, BodyReads, FailsBody};
 
 use crate::lookup::lookup;
 use crate::start::body_of;

@@ -1,6 +1,6 @@
 ghost use Rattle.std.specs.Prelude.{[], ◌∷◌};
 ghost use Rattle.proof_syntax.specs.Forms.{FactArg, NumberArg, TypeArg, TermArg};
-ghost use Rattle.proof_reader.specs.Rules.{IsNamed, IsNamedSingle, IsMade, term_rule, theorem_rule, pair_rule, mixed_rule, variable_rule, rule_of};
+ghost use Rattle.proof_reader.specs.inner.Rules.{IsNamed, IsNamedSingle, IsMade, term_rule, theorem_rule, pair_rule, mixed_rule, variable_rule, rule_of};
 
 use hol_terms::{Term, Ty};
 use kernel_rules::{Step, ThmId};

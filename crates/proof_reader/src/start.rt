@@ -1,6 +1,6 @@
 ghost use Rattle.std.specs.Prelude.{MatchOption};
 ghost use Rattle.proof_syntax.specs.Reading.{NeverStarts};
-ghost use Rattle.proof_reader.specs.Start.{IsBody, NoLineEnd, IsBehindLine};
+ghost use Rattle.proof_reader.specs.inner.Start.{IsBody, NoLineEnd, IsBehindLine};
 
 use bstr::ByteSlice;
 

@@ -1,8 +1,8 @@
 ghost use Rattle.std.specs.Prelude.{◌≡◌, [], ◌∷◌, MatchResult};
 ghost use Rattle.proof_syntax.specs.Tokens.{cut, line_end};
 ghost use Rattle.proof_words.specs.Sharing.{IsOneOf};
-ghost use Rattle.proof_reader.specs.Words.{FailsWord, FailsLast, openings};
-ghost use Rattle.proof_reader.specs.Parts.{IsOpening, GotStep, FailsStep, GotSteps, FailsSteps};
+ghost use Rattle.proof_reader.specs.inner.Words.{FailsWord, FailsLast, openings};
+ghost use Rattle.proof_reader.specs.inner.Parts.{IsOpening, GotStep, FailsStep, GotSteps, FailsSteps};
 
 use crate::made::made;
 use crate::words::{other_word, read_rule};

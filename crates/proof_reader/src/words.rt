@@ -2,8 +2,8 @@ ghost use Rattle.std.specs.Prelude.{◌≡◌, [], ◌∷◌, List, map, codes, 
 ghost use Rattle.proof_words.specs.Sharing.{IsOneOf};
 ghost use Rattle.proof_syntax.specs.Tokens.{Tok, Word, cut};
 ghost use Rattle.proof_syntax.specs.Machine.{rules};
-ghost use Rattle.proof_reader.specs.Rules.{rule_of};
-ghost use Rattle.proof_reader.specs.Words.{FailsWord, words_of};
+ghost use Rattle.proof_reader.specs.inner.Rules.{rule_of};
+ghost use Rattle.proof_reader.specs.inner.Words.{FailsWord, words_of};
 
 use crate::rule::{Rule, WORDS};
 use proof_syntax::PartFault;

@@ -13,7 +13,7 @@ use Rattle.proof_syntax.specs.Parts.{GotType, FailsType, BegunType, Below, wants
 use Rattle.proof_syntax.proofs.Inside.{Refuses}
 use Rattle.proof_terms.specs.declared.sides.Side.{Side}
 use Rattle.proof_terms.specs.declared.sides.Side.TheVariants as side
-use Rattle.proof_terms.specs.Turns.{Begins, FailsToBegin, TurnsRight, Closes, FailsToGoOn}
+use Rattle.proof_terms.specs.inner.Turns.{Begins, FailsToBegin, TurnsRight, Closes, FailsToGoOn}
 use Rattle.proof_terms.proofs.Front.{sign_shorter, word_shorter}
 use Rattle.proof_terms.proofs.Passed.{nothing, one, stops, stops_but, goes_beyond}
 use Rattle.proof_terms.proofs.Around.{Around, outside, left, right, SoFar, within, state_of, level_within, begun, begun_part, closes, nothing_around, left_of, right_of, base_of, base_unknown}

@@ -1,3 +1,3 @@
 pub mod Fronts
-pub mod Turns
 pub mod Terms
+pub mod inner

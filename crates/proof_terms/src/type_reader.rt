@@ -1,7 +1,7 @@
 ghost use Rattle.std.specs.Prelude.{◌≡◌, ℕ, ◌≤◌, MatchResult};
 ghost use Rattle.proof_syntax.specs.Grammar.{most};
 ghost use Rattle.proof_syntax.specs.Parts.{GotType, FailsType};
-ghost use Rattle.proof_terms.specs.Turns.{Begins, FailsToBegin, GoesOn, FailsToGoOn};
+ghost use Rattle.proof_terms.specs.inner.Turns.{Begins, FailsToBegin, GoesOn, FailsToGoOn};
 
 use crate::sides::{Side, Sides};
 use crate::{Lookup, read_name, sign};

@@ -9,7 +9,7 @@ use Rattle.theory_reader.specs.declared.theory.Theory.{Theory}
 use Rattle.theory_reader.specs.Sound.{goal_names, const_names, fact_names, seen_from}
 use Rattle.proof_syntax.specs.Names.{Names, names_of, name_in}
 use Rattle.proof_syntax.specs.Texts.{steps_text, proof_text}
-use Rattle.proof_text.specs.Vocabularies.{names_beside}
+use Rattle.proof_text.specs.inner.Vocabularies.{names_beside}
 
 module _ (t : Theory) (n : ℕ) (g : Goal) (is : slice_get t.goals n ≡ Some g) where
   pub goal_name : name_in (goal_names t.goals) n ≡ g.name

@@ -24,7 +24,7 @@ use Rattle.proof_syntax.specs.Grammar.{Placed, at, most, name, AreSteps, IsProof
 use Rattle.proof_syntax.specs.Reading.{first_line, Reads}
 use Rattle.proof_syntax.specs.Texts.{steps_text, proof_text, is_shallow}
 use Rattle.proof_syntax.proofs.Numbers.{eq_false}
-use Rattle.proof_text.specs.Fitting.{steps_fit}
+use Rattle.proof_text.specs.inner.Fitting.{steps_fit}
 use Rattle.proof_text.proofs.Wordy.{IsWordy, name_wordy}
 use Rattle.proof_text.proofs.Places.{IsDeclared, found_at, declared_at, at_place}
 use Rattle.proof_text.proofs.Lying.{Lies, joined, word_then, sign_then}

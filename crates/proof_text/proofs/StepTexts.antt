@@ -7,7 +7,7 @@ use Rattle.kernel_rules.specs.declared.step.Step.{Step}
 use Rattle.proof_syntax.specs.Names.{Names}
 use Rattle.proof_syntax.specs.Forms.{form}
 use Rattle.proof_syntax.specs.Texts.{step_text, steps_text}
-use Rattle.proof_text.specs.Fitting.{args_fit, steps_fit}
+use Rattle.proof_text.specs.inner.Fitting.{args_fit, steps_fit}
 
 one_more : (names : Names) (n : ℕ) (xs : List Step) (s : Step) → steps_text names n (xs ++ s ∷ []) ≡ steps_text names n xs ++ step_text names (n + length xs) s
 one_more names n [] s = let e : n ≡ n + 0 = omega arith in append-nil (step_text names n s) ∙ ap (λ m. step_text names m s) e

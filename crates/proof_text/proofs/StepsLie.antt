@@ -10,7 +10,7 @@ use Rattle.proof_syntax.specs.Forms.{Arg, FactArg, NumberArg, TypeArg, TermArg, 
 use Rattle.proof_syntax.specs.Tokens.{Word, space, line_end}
 use Rattle.proof_syntax.specs.Grammar.{Placed, at, most, name, IsArg, fact, number, type, term, AreArgs, none, more, AreSteps, end, step as one_step}
 use Rattle.proof_syntax.specs.Texts.{arg_text, args_text, steps_text, nesting, is_shallow_arg, is_shallow}
-use Rattle.proof_text.specs.Fitting.{arg_fits, args_fit, steps_fit}
+use Rattle.proof_text.specs.inner.Fitting.{arg_fits, args_fit, steps_fit}
 use Rattle.proof_text.proofs.Wordy.{IsWordy, number_wordy}
 use Rattle.proof_text.proofs.Places.{IsDeclared}
 use Rattle.proof_text.proofs.Lying.{Lies, joined, word_lies, word_then, sign_lies, sign_then}

@@ -17,7 +17,7 @@ use Rattle.proof_syntax.specs.Forms.{Plain, Truth, Falsity, Not, And, Or, Imp, p
 use Rattle.proof_syntax.specs.Tokens.{Word, hash, dollar, dot, colon, open_square, close_square, open_round, close_round, space, open_brace, close_brace}
 use Rattle.proof_syntax.specs.Grammar.{Placed, at, most, name, IsTerm, bound, free, named, plain, typed, apply, lambda}
 use Rattle.proof_syntax.specs.Texts.{type_text, with_type, konst_text, term_step, term_text, nesting_step, nesting}
-use Rattle.proof_text.specs.Fitting.{fits, term_fits_step, term_fits}
+use Rattle.proof_text.specs.inner.Fitting.{fits, term_fits_step, term_fits}
 use Rattle.proof_text.proofs.Wordy.{IsWordy, number_wordy}
 use Rattle.proof_text.proofs.Places.{IsDeclared}
 use Rattle.proof_text.proofs.Lying.{Lies, joined, word_lies, word_then, sign_lies, sign_then, between}

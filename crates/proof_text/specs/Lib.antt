@@ -1,4 +1,2 @@
-pub mod Vocabularies
-pub mod Fitting
-pub mod Arguments
 pub mod Laws
+pub mod inner

@@ -1,7 +1,7 @@
 ghost use Rattle.std.specs.Prelude.{◌≡◌, ◌≤◌, ◌++◌, length, OnOk};
 ghost use Rattle.theory_reader.specs.Sound.{fact_names};
 ghost use Rattle.proof_syntax.specs.Names.{name_in};
-ghost use Rattle.proof_text.specs.Vocabularies.{declared_names, names_beside};
+ghost use Rattle.proof_text.specs.inner.Vocabularies.{declared_names, names_beside};
 
 use text_kit::{Bytes, NoMemory};
 use theory_reader::{Decl, Fact, Goal, Theory};

@@ -4,7 +4,7 @@ ghost use Rattle.kernel_rules.specs.Derivations.{Checks};
 ghost use Rattle.theory_reader.specs.Seen.{IsEnvOf};
 ghost use Rattle.proof_syntax.specs.Reading.{Reads};
 ghost use Rattle.proof_syntax.specs.Texts.{proof_text, is_shallow};
-ghost use Rattle.proof_text.specs.Fitting.{steps_fit};
+ghost use Rattle.proof_text.specs.inner.Fitting.{steps_fit};
 
 use crate::names::names_of;
 use crate::steps::put_steps;

@@ -1,9 +1,9 @@
 ghost use Rattle.std.specs.Prelude.{◌≡◌, ◌∷◌, ◌++◌, OnOk, IsTrue};
 ghost use Rattle.proof_syntax.specs.Texts.{arg_text, args_text, step_text, steps_text};
 ghost use Rattle.proof_syntax.specs.Forms.{form};
-ghost use Rattle.proof_text.specs.Fitting.{arg_fits, args_fit, steps_fit};
-ghost use Rattle.proof_text.specs.Arguments.{arg_of, args_of, rule_text};
-ghost use Rattle.proof_text.specs.Vocabularies.{declared_names};
+ghost use Rattle.proof_text.specs.inner.Fitting.{arg_fits, args_fit, steps_fit};
+ghost use Rattle.proof_text.specs.inner.Arguments.{arg_of, args_of, rule_text};
+ghost use Rattle.proof_text.specs.inner.Vocabularies.{declared_names};
 
 use crate::names::{Vocabulary, put_fact_name};
 use crate::terms::put_term;

@@ -1,7 +1,7 @@
 ghost use Rattle.std.specs.Prelude.{◌≡◌, ◌∷◌, ◌++◌, decimal, OnOk, IsTrue};
 ghost use Rattle.proof_syntax.specs.Texts.{with_type, konst_text, term_text};
-ghost use Rattle.proof_text.specs.Fitting.{fits, term_fits};
-ghost use Rattle.proof_text.specs.Vocabularies.{declared_names};
+ghost use Rattle.proof_text.specs.inner.Fitting.{fits, term_fits};
+ghost use Rattle.proof_text.specs.inner.Vocabularies.{declared_names};
 
 use crate::names::{Vocabulary, put_const_name};
 use crate::types::put_type;

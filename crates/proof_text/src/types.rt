@@ -1,6 +1,6 @@
 ghost use Rattle.std.specs.Prelude.{◌≡◌, ◌++◌, OnOk};
 ghost use Rattle.proof_syntax.specs.Texts.{type_text};
-ghost use Rattle.proof_text.specs.Vocabularies.{declared_names};
+ghost use Rattle.proof_text.specs.inner.Vocabularies.{declared_names};
 
 use crate::names::{Vocabulary, put_type_name};
 use hol_terms::Ty;

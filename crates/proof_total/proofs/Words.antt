@@ -6,7 +6,7 @@ use Rattle.hol_terms.specs.declared.term.Term.{Term}
 use Rattle.first_fault.specs.Walk.{Step}
 use Rattle.kernel_rules.specs.declared.step.Step as kernel
 use Rattle.proof_words.specs.Sharing.{Shares, IsNumber, IsOneOf}
-use Rattle.proof_words.specs.Steps.{most_shared}
+use Rattle.proof_words.specs.inner.Steps.{most_shared}
 use Rattle.proof_words.proofs.Fronts as fronts
 use Rattle.proof_syntax.specs.Tokens.{Word}
 use Rattle.proof_syntax.specs.Names.{Names}

@@ -5,7 +5,7 @@ use Rattle.std.proofs.lemmas.Bool.{cases_lt}
 use Rattle.std.proofs.lemmas.List.{drop_all}
 use Rattle.std.proofs.lemmas.List.Sums.{common_prefix_len-le}
 use Rattle.proof_words.specs.Sharing.{Shares, IsOneOf}
-use Rattle.proof_words.specs.Steps.{most_shared}
+use Rattle.proof_words.specs.inner.Steps.{most_shared}
 
 abbrev both : List ℕ → List ℕ → ℕ
 both w v = common_prefix_len nat_eq w v

@@ -1,6 +1,6 @@
 ghost use Rattle.std.specs.Prelude.{◌≡◌, ◌+◌, ◌*◌, ◌-◌, ◌^◌, ◌<◌, ◌∷◌, List, ℕ, IsSome, MatchOption};
 ghost use Rattle.proof_words.specs.Sharing.{IsRead};
-ghost use Rattle.proof_words.specs.Steps.{IsDigit, GoesNoFurther};
+ghost use Rattle.proof_words.specs.inner.Steps.{IsDigit, GoesNoFurther};
 
 /// What a word says where a number is wanted.
 #[derive(Clone, Copy, Debug, Drop, PartialEq, Eq)]

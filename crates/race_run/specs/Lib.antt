@@ -1,5 +1,4 @@
 pub mod Drains
 pub mod Losses
 pub mod Races
-pub mod Watches
 pub mod inner

@@ -3,3 +3,4 @@ pub mod Replays
 pub mod Seats
 pub mod Sweeping
 pub mod Working
+pub mod Watches

@@ -1,6 +1,6 @@
 ghost use Rattle.std.specs.Prelude.{◌≡◌, true, is_some};
 ghost use Rattle.std.specs.List.{list_any};
-ghost use Rattle.race_run.specs.Watches.{is_live, is_over};
+ghost use Rattle.race_run.specs.inner.Watches.{is_live, is_over};
 
 use crossbeam_utils::Backoff;
 use race_board::{Board, Name};

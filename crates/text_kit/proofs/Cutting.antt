@@ -10,7 +10,7 @@ use Rattle.text_kit.specs.declared.cut.Token.{Token}
 use Rattle.text_kit.specs.declared.cut.Front.{Front}
 use Rattle.text_kit.specs.declared.cut.Front.TheVariants as front
 use Rattle.text_kit.specs.Tokens.{IsGap, blank, comment, Stands, word, mark, short, arrow, implies, BeginsNothing, token, Cuts, end, gap, next, Breaks, here, behind_gap, behind_token, IsWithin, Cut, Into, BadAt, IsCut, HasAnswer}
-use Rattle.text_kit.specs.Front.{front_of}
+use Rattle.text_kit.specs.inner.Front.{front_of}
 use Rattle.text_kit.proofs.Pieces.{Split, Told, told, tells, tells_gap, begins_nothing}
 
 -- a piece holds a byte

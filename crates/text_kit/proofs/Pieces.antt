@@ -8,7 +8,7 @@ use Rattle.text_kit.specs.declared.cut.Kind.TheVariants as kind
 use Rattle.text_kit.specs.declared.cut.Front.{Front}
 use Rattle.text_kit.specs.declared.cut.Front.TheVariants as front
 use Rattle.text_kit.specs.Tokens.{is_blank, is_inside_line, is_word_byte, is_short_mark, IsMark, short, arrow, implies, StopsAt, IsGap, blank, comment, Stands, word, mark, BeginsNothing}
-use Rattle.text_kit.specs.Front.{front_of, front_at, word_of, equal_mark, dash_mark}
+use Rattle.text_kit.specs.inner.Front.{front_of, front_at, word_of, equal_mark, dash_mark}
 
 -- a run up to where it stops has its length
 pub prefix_len_run : (p : ℕ → Bool) (xs ys : List ℕ) → IsTrue (list_all p xs) → StopsAt p ys → prefix_len p (xs ++ ys) ≡ length xs

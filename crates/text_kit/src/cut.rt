@@ -1,7 +1,7 @@
 ghost use Rattle.std.specs.Prelude.{◌≡◌, ℕ, ◌≤◌, ◌<◌, List, length, drop, All, IfOk, IfErr};
 ghost use Rattle.std.specs.List.{prefix_len};
 ghost use Rattle.text_kit.specs.Tokens.{Cuts, Cut, IsCut, HasAnswer, IsRefusedAs, IsWithin, is_blank, is_short_mark, is_word_byte, is_inside_line};
-ghost use Rattle.text_kit.specs.Front.{front_of, equal_mark, dash_mark, word_of};
+ghost use Rattle.text_kit.specs.inner.Front.{front_of, equal_mark, dash_mark, word_of};
 
 use crate::{NoMemory, Rows};
 use std::alloc::Global;

@@ -9,7 +9,7 @@ use Rattle.theory_syntax.specs.Reading as syntax
 use Rattle.theory_terms.specs.declared.fault.TheoryFault.{TheoryFault}
 use Rattle.theory_reader.specs.Toks.{toks_of}
 use Rattle.theory_reader.specs.Reading as faulty
-use Rattle.theory_reader.specs.Stages.{GivesItems, Located}
+use Rattle.theory_reader.specs.inner.Stages.{GivesItems, Located}
 
 told : (text : List ℕ) (ts : List Token) → Cuts 0 text ts → (e : Fault) → syntax.Refused 256 (toks_of text ts) e →
     (r : TheoryFault) → Located text ts e r → GivesItems text (Err r)

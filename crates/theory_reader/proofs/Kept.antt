@@ -22,7 +22,7 @@ use Rattle.theory_reader.specs.Names.{is_name, distinct}
 use Rattle.theory_reader.specs.Sound.{fact_names, goal_names, const_names, seen_from, facts_hold_sentences, goals_hold_sentences, are_behind}
 use Rattle.theory_reader.specs.Declarations.{Declarations, known}
 use Rattle.theory_reader.specs.Declaring.{fact_of, goal_of, with_type, with_const, with_fact, with_goal}
-use Rattle.theory_reader.specs.Stages.{IsSound}
+use Rattle.theory_reader.specs.inner.Stages.{IsSound}
 use Rattle.theory_reader.proofs.Passes.{one_more_passes, all_weaker, both_weaker}
 use Rattle.theory_reader.proofs.Grows.{Extends, ty_fits_more, sentence_stays}
 use Rattle.theory_reader.proofs.Differ.{distinct_more}

@@ -30,7 +30,7 @@ use Rattle.theory_reader.specs.Sound.{fact_names, goal_names}
 use Rattle.theory_reader.specs.Declarations.{Declarations, known}
 use Rattle.theory_reader.specs.Declaring.{unless, is_stated, fact_of, with_type, with_const, with_fact, with_goal, type_declared, const_declared, fact_declared, goal_declared, assumption, assumptions, declared, declared_all, nothing, theory_of}
 use Rattle.theory_reader.specs.Reading.{ReadsItems}
-use Rattle.theory_reader.specs.Stages.{IsSound}
+use Rattle.theory_reader.specs.inner.Stages.{IsSound}
 use Rattle.theory_reader.proofs.Kept.{Kept, kept_sound, with_type_kept, with_const_kept, with_fact_kept, with_goal_kept, AssumesKept, none_kept, one_more_kept}
 use Rattle.theory_reader.proofs.Named.{named, hyp_named, item_named, declares_names}
 use Rattle.theory_reader.proofs.Passes.{head_passes, tail_passes}

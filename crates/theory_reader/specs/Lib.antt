@@ -5,4 +5,4 @@ pub mod Seen
 pub mod Toks
 pub mod Declaring
 pub mod Reading
-pub mod Stages
+pub mod inner

@@ -3,7 +3,7 @@ ghost use Rattle.theory_terms.specs.Words.{place};
 ghost use Rattle.theory_terms.specs.Answers.{Tells};
 ghost use Rattle.theory_reader.specs.Sound.{fact_names};
 ghost use Rattle.theory_reader.specs.Declaring.{is_stated, fact_of, assumption, assumptions};
-ghost use Rattle.theory_reader.specs.Stages.{so_far, Agrees, Assumes};
+ghost use Rattle.theory_reader.specs.inner.Stages.{so_far, Agrees, Assumes};
 
 use crate::parts::Parts;
 use crate::{Fact, TheoryFault, TheoryKind};

@@ -1,7 +1,7 @@
 ghost use Rattle.std.specs.Prelude.{◌≡◌, ◌∷◌, ◌++◌, [], None, length, OnOk};
 ghost use Rattle.theory_terms.specs.Words.{place};
 ghost use Rattle.theory_reader.specs.Declaring.{goal_of, type_declared, const_declared, fact_declared, goal_declared, declared, declared_all};
-ghost use Rattle.theory_reader.specs.Stages.{so_far, Agrees, Becomes};
+ghost use Rattle.theory_reader.specs.inner.Stages.{so_far, Agrees, Becomes};
 
 use crate::assume::{assumed, fault_at, is_taken, push_fact};
 use crate::parts::Parts;

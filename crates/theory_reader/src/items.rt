@@ -1,7 +1,7 @@
 ghost use Rattle.std.specs.Prelude.{◌≡◌, length, All};
 ghost use Rattle.text_kit.specs.Tokens.{Cuts, IsWithin, IsRefusedAs};
 ghost use Rattle.theory_reader.specs.Toks.{toks_of, byte_at};
-ghost use Rattle.theory_reader.specs.Stages.{GivesItems, Located};
+ghost use Rattle.theory_reader.specs.inner.Stages.{GivesItems, Located};
 
 use crate::toks::toks;
 use crate::{TheoryFault, TheoryKind};

@@ -4,7 +4,7 @@ ghost use Rattle.theory_reader.specs.Declarations.{Declarations};
 ghost use Rattle.theory_reader.specs.Declaring.{nothing, theory_of};
 ghost use Rattle.theory_reader.specs.Seen.{declarations};
 ghost use Rattle.theory_reader.specs.Reading.{ReadsItems, IsReadAs, IsAnswer, Tells, SomeAnswer, OneAnswer};
-ghost use Rattle.theory_reader.specs.Stages.{so_far, Agrees, IsSound};
+ghost use Rattle.theory_reader.specs.inner.Stages.{so_far, Agrees, IsSound};
 
 use crate::declare::declare;
 use crate::items::items;

@@ -10,7 +10,7 @@ use Rattle.theory_syntax.specs.declared.tree.Item.TheVariants as item
 use Rattle.first_fault.proofs.Fronts.{put-append, goes-append}
 use Rattle.theory_syntax.specs.Grammar.{Placed, at, AreHyps, no_hyp, hyp, Declares, a_type, a_const, a_fact, a_goal, IsTheory, empty, decl}
 use Rattle.theory_syntax.specs.Machine.{InConst, InFact, InGoal, Stage, Main, Side, OpenGoal, staged, goal_of, State, Want, WantTy, Have, Top, Run, run, put, goes, Goes, Done, Ends}
-use Rattle.theory_syntax.specs.Parts.{supposing}
+use Rattle.theory_syntax.specs.inner.Parts.{supposing}
 use Rattle.theory_syntax.proofs.Complete.{complete, complete_ty}
 
 -- the token that ends a declaration is taken

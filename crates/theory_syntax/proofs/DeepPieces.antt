@@ -11,8 +11,8 @@ use Rattle.theory_syntax.specs.declared.tree.Tree.{Tree}
 use Rattle.first_fault.specs.declared.fault.Fault.TheVariants as fault
 use Rattle.theory_syntax.specs.Grammar.{Placed, at, Formula, Neg, Derives, bind, not, name, truth as truth_, round, single, base}
 use Rattle.theory_syntax.specs.Machine.{run, Frame, class, sort_rank, start}
-use Rattle.theory_syntax.specs.Parts.{Begun, Fault_of, Below, stance, NoOperand, end_of}
-use Rattle.theory_syntax.specs.Part.{sort_of}
+use Rattle.theory_syntax.specs.inner.Parts.{Begun, Fault_of, Below, stance, NoOperand, end_of}
+use Rattle.theory_syntax.specs.inner.Part.{sort_of}
 use Rattle.theory_syntax.proofs.Pieces.{here, deep_here}
 use Rattle.theory_syntax.proofs.TermPieces.{anon, as_neg, as_chain, as_formula}
 

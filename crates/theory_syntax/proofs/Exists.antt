@@ -18,9 +18,9 @@ use Rattle.theory_syntax.specs.declared.front.Heading.TheVariants as heading
 use Rattle.theory_syntax.specs.declared.term_reader.Part.{Part}
 use Rattle.theory_syntax.specs.declared.term_reader.Part.TheVariants as part
 use Rattle.theory_syntax.specs.Grammar.{Sort, Formula, Chain, Neg, Eq, App, Args, Atom, sign, lower, right, TypeSort, Whole, Single}
-use Rattle.theory_syntax.specs.Front.{opening}
-use Rattle.theory_syntax.specs.Parts.{Got, Fault_of, GotTy, Fault_of_ty, GotHyp, GotHyps, Fault_of_hyps, GotItem, Fault_of_item, Fault_of_all, IsNot, NoWord, NoAtom, StartsAtom}
-use Rattle.theory_syntax.specs.Part.{sort_of}
+use Rattle.theory_syntax.specs.inner.Front.{opening}
+use Rattle.theory_syntax.specs.inner.Parts.{Got, Fault_of, GotTy, Fault_of_ty, GotHyp, GotHyps, Fault_of_hyps, GotItem, Fault_of_item, Fault_of_all, IsNot, NoWord, NoAtom, StartsAtom}
+use Rattle.theory_syntax.specs.inner.Part.{sort_of}
 use Rattle.theory_syntax.specs.Reading.{Answer, Text, Syntax, TooDeep, IsAnswer}
 use Rattle.theory_syntax.proofs.TypePieces as types
 use Rattle.theory_syntax.proofs.TermPieces as terms

@@ -11,7 +11,7 @@ use Rattle.theory_syntax.specs.declared.tree.Hyp.{Hyp}
 use Rattle.theory_syntax.specs.declared.tree.Item.{Item}
 use Rattle.theory_syntax.specs.Grammar.{Placed, at, Formula, Derives, name, AreHyps, no_hyp, hyp}
 use Rattle.theory_syntax.specs.Machine.{put, goes, run, InGoal, Stage, Side, OpenGoal, staged, Want, Have, HypName, HypColon, Goes, Ends}
-use Rattle.theory_syntax.specs.Parts.{Got, Begun, Fault_of, Below, stance, Stands, IsNot, NoWord, end_of, InGoalAt, in_goal, BegunHyps, Fault_of_hyps, GotHyp, GotHyps, supposing}
+use Rattle.theory_syntax.specs.inner.Parts.{Got, Begun, Fault_of, Below, stance, Stands, IsNot, NoWord, end_of, InGoalAt, in_goal, BegunHyps, Fault_of_hyps, GotHyp, GotHyps, supposing}
 use Rattle.theory_syntax.proofs.Complete.{complete}
 use Rattle.theory_syntax.proofs.Pieces.{put-append, goes-append, put_length, inside, here, within-append}
 use Rattle.theory_syntax.proofs.TermPieces.{anon, as_neg, as_formula}

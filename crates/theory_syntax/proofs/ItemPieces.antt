@@ -6,7 +6,7 @@ use Rattle.theory_syntax.specs.declared.tree.Item.{Item}
 use Rattle.theory_syntax.specs.Grammar.{Placed, IsTheory, empty, decl}
 use Rattle.theory_syntax.specs.Machine.{put, goes, run, Top}
 use Rattle.theory_syntax.specs.Reading.{Within, Begins, Reads}
-use Rattle.theory_syntax.specs.Parts.{GotItem, Fault_of_item, Fault_of_all, outset}
+use Rattle.theory_syntax.specs.inner.Parts.{GotItem, Fault_of_item, Fault_of_all, outset}
 use Rattle.theory_syntax.proofs.Pieces.{put-append, goes-append, inside, within-append}
 
 pub record ItemsSoFar (m : ℕ) (ts : List Tok) (ds : List Item) (rest : List Tok) : Type 0 where

@@ -9,7 +9,7 @@ use Rattle.theory_syntax.specs.declared.tree.Item.{Item}
 use Rattle.theory_syntax.specs.Grammar.{Placed, at}
 use Rattle.theory_syntax.specs.Machine.{put, goes, run, State}
 use Rattle.theory_syntax.specs.Reading.{Within}
-use Rattle.theory_syntax.specs.Parts.{Fails, end_of}
+use Rattle.theory_syntax.specs.inner.Parts.{Fails, end_of}
 
 module _ (m : ℕ) (B B' : List Placed → Type 0) (I I' : Type 0) (st : I → State) (st' : I' → State) where
   pub inside : (p : List Placed) (ts us : List Tok) → ts ≡ put p us → Within m p → ((q : List Placed) → B' q → B (p ++ q)) →

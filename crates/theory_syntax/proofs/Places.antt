@@ -9,7 +9,7 @@ use Rattle.theory_syntax.specs.declared.tree.Item.{Item}
 use Rattle.theory_syntax.specs.Grammar.{IsTheory}
 use Rattle.theory_syntax.specs.Machine.{step, State, accepted, Top}
 use Rattle.theory_syntax.specs.Reading.{Reads, Answer, Text, IsAnswer, Refused, Tells}
-use Rattle.theory_syntax.specs.Parts.{Fault_of_all}
+use Rattle.theory_syntax.specs.inner.Parts.{Fault_of_all}
 use Rattle.theory_syntax.proofs.CompleteText.{complete_theory}
 
 module _ (m : ℕ) (ts : List Tok) where

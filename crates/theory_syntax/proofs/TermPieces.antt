@@ -14,7 +14,7 @@ use Rattle.first_fault.specs.declared.fault.Fault.TheVariants as fault
 use Rattle.theory_syntax.specs.Grammar.{Placed, at, Formula, Chain, Neg, Eq, App, Args, Atom, sign, lower, right, extend, Whole, base, single, Derives, bind, plain, one, more as more_, not, same, side, sides, head, none, arg, name, truth as truth_, round}
 use Rattle.theory_syntax.specs.Machine.{put, goes, run, Frame, Head, Left, Not, Join, Bind, Round, Typed, level, top_rank, op_rank, sort_rank, class, start, Want, Name, Colon, Have, WantTy, HaveTy, Goes, Ends, EndsTy, after, shifted}
 use Rattle.theory_syntax.specs.Reading.{Within}
-use Rattle.theory_syntax.specs.Parts.{Got, Begun, Fault_of, GotTy, BegunTy, Fault_of_ty, Below, stance, stance_ty, IsNot, NoWord, NoAtom, StartsAtom, end_of}
+use Rattle.theory_syntax.specs.inner.Parts.{Got, Begun, Fault_of, GotTy, BegunTy, Fault_of_ty, Below, stance, stance_ty, IsNot, NoWord, NoAtom, StartsAtom, end_of}
 use Rattle.theory_syntax.proofs.Complete.{complete, complete_ty, pops, always, arg_start, sign_step, sign_rank, lower_rank, right_rank, is_le, stays}
 use Rattle.theory_syntax.proofs.Pieces.{put-append, goes-append, inside, here, within-append, regroup}
 

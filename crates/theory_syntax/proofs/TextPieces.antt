@@ -15,8 +15,8 @@ use Rattle.theory_syntax.specs.declared.front.Heading.TheVariants as heading
 use Rattle.theory_syntax.specs.Grammar.{Placed, at, Whole, single, base, Formula, name, AreHyps, no_hyp, Declares, a_type, a_const, a_fact, a_goal, IsTheory, empty, decl}
 use Rattle.theory_syntax.specs.Machine.{put, goes, run, InConst, InFact, InGoal, Stage, Main, Have, HaveTy, Top, TypeName, TypeEnd, ItemName, ItemColon, Goes, Ends, EndsTy}
 use Rattle.theory_syntax.specs.Reading.{Within, Begins}
-use Rattle.theory_syntax.specs.Front.{opening, stated}
-use Rattle.theory_syntax.specs.Parts.{Got, Begun, Fault_of, GotTy, BegunTy, Fault_of_ty, stance_ty, Below, stance, IsNot, NoWord, NoItem, end_of, InGoalAt, in_goal, BegunHyps, Fault_of_hyps, GotHyps, GotItem, Fault_of_item}
+use Rattle.theory_syntax.specs.inner.Front.{opening, stated}
+use Rattle.theory_syntax.specs.inner.Parts.{Got, Begun, Fault_of, GotTy, BegunTy, Fault_of_ty, stance_ty, Below, stance, IsNot, NoWord, NoItem, end_of, InGoalAt, in_goal, BegunHyps, Fault_of_hyps, GotHyps, GotItem, Fault_of_item}
 use Rattle.theory_syntax.proofs.Complete.{complete, complete_ty}
 use Rattle.theory_syntax.proofs.CompleteText.{complete_item}
 use Rattle.theory_syntax.proofs.Pieces.{put-append, goes-append, put_length, inside, here, within-append}

@@ -9,7 +9,7 @@ use Rattle.first_fault.specs.declared.fault.Fault.{Fault}
 use Rattle.first_fault.specs.declared.fault.Fault.TheVariants as fault
 use Rattle.theory_syntax.specs.Grammar.{at, Whole, Single, IsType, truth, base, bracket, single, arrow}
 use Rattle.theory_syntax.specs.Machine.{put, goes, run, Frame, Bracket, Arrow, WantTy, HaveTy, Goes, EndsTy}
-use Rattle.theory_syntax.specs.Parts.{GotTy, BegunTy, Fault_of_ty, Below, stance_ty, IsNot, NoType, end_of}
+use Rattle.theory_syntax.specs.inner.Parts.{GotTy, BegunTy, Fault_of_ty, Below, stance_ty, IsNot, NoType, end_of}
 use Rattle.theory_syntax.proofs.Complete.{complete_ty}
 use Rattle.theory_syntax.proofs.Pieces.{put-append, goes-append, inside, here, deep_here, within-append, regroup}
 

@@ -1,8 +1,8 @@
 ghost use Rattle.std.specs.Prelude.{◌≡◌, ℕ, ◌∷◌, MatchOption, MatchBool};
 ghost use Rattle.theory_syntax.specs.declared.tokens.Tok.TheVariants as tok;
 ghost use Rattle.theory_syntax.specs.declared.tokens.Quant.{Quant as QuantOf};
-ghost use Rattle.theory_syntax.specs.Parts.{IsNot, Stands, NoWord, NoAtom, StartsAtom};
-ghost use Rattle.theory_syntax.specs.Front.{IsOperand, IsAtomFront, IsTypeFront, IsItemFront};
+ghost use Rattle.theory_syntax.specs.inner.Parts.{IsNot, Stands, NoWord, NoAtom, StartsAtom};
+ghost use Rattle.theory_syntax.specs.inner.Front.{IsOperand, IsAtomFront, IsTypeFront, IsItemFront};
 
 use crate::{Quant, Tok, Word};
 

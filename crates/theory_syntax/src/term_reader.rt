@@ -1,9 +1,9 @@
 ghost use Rattle.std.specs.Prelude.{◌≡◌, ℕ, ◌+◌, ◌≤◌, MatchResult, IfOk, ◌∷◌};
 ghost use Rattle.theory_syntax.specs.Grammar.{Formula, Chain, Neg, Eq, App, Args, Atom, sign, lower, right, extend};
-ghost use Rattle.theory_syntax.specs.Parts.{Got, Fault_of, IsNot};
+ghost use Rattle.theory_syntax.specs.inner.Parts.{Got, Fault_of, IsNot};
 ghost use Rattle.theory_syntax.specs.declared.tokens.Tok.TheVariants as tok;
 ghost use Rattle.theory_syntax.specs.declared.tokens.Quant.{Quant as QuantOf};
-ghost use Rattle.theory_syntax.specs.Part.{sort_of};
+ghost use Rattle.theory_syntax.specs.inner.Part.{sort_of};
 
 use crate::front::{
     AtomFront, Operand, atom_front, behind, binder_sign, operand_front, starts_atom, tilde, word,

@@ -1,8 +1,8 @@
 ghost use Rattle.std.specs.Prelude.{◌≡◌, ℕ, ◌<◌, ◌≤◌, ◌∷◌, length, MatchResult};
 ghost use Rattle.theory_syntax.specs.declared.tokens.Tok.TheVariants as tok;
 ghost use Rattle.theory_syntax.specs.Machine.{Ends};
-ghost use Rattle.theory_syntax.specs.Front.{opening};
-ghost use Rattle.theory_syntax.specs.Parts.{Stands, IsNot, GotHyp, GotHyps, Fault_of_hyps, GotItem, Fault_of_item, Fault_of_all};
+ghost use Rattle.theory_syntax.specs.inner.Front.{opening};
+ghost use Rattle.theory_syntax.specs.inner.Parts.{Stands, IsNot, GotHyp, GotHyps, Fault_of_hyps, GotItem, Fault_of_item, Fault_of_all};
 ghost use Rattle.theory_syntax.specs.Reading.{Reads, Refused, OneAnswer, SomeAnswer, Answer, Text, IsAnswer, Tells};
 
 use crate::front::{Heading, ItemFront, behind, item_front, stands, word};

@@ -1,6 +1,6 @@
 ghost use Rattle.std.specs.Prelude.{◌≡◌, ℕ, ◌+◌, ◌≤◌, MatchResult, IfOk};
 ghost use Rattle.theory_syntax.specs.Grammar.{Whole, Single};
-ghost use Rattle.theory_syntax.specs.Parts.{GotTy, Fault_of_ty};
+ghost use Rattle.theory_syntax.specs.inner.Parts.{GotTy, Fault_of_ty};
 
 use crate::front::{TypeFront, behind, type_front};
 use crate::{Tok, TyTree};

@@ -13,7 +13,7 @@ use Rattle.theory_terms.specs.declared.scope.Scope.{Scope}
 use Rattle.theory_terms.specs.declared.scope.Scope.TheVariants as variants
 use Rattle.theory_terms.specs.declared.scope.Scope.TheFolds.{the_lemmas}
 use Rattle.theory_terms.specs.Numbers.{type_at, IsNumbered, AreNumbered, Keeps, Noted, AreNoted}
-use Rattle.theory_terms.specs.Scopes.{numbered_types}
+use Rattle.theory_terms.specs.inner.Scopes.{numbered_types}
 
 pub keeps_all : (old new : List Ty) → Keeps old new → (ts : List Numbered) → AreNumbered old ts → AreNumbered new ts
 keeps_all old new keeps [] h = tt

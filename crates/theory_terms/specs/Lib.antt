@@ -4,7 +4,5 @@ pub mod Signature
 pub mod Types
 pub mod Meanings
 pub mod Laws
-pub mod Scopes
-pub mod Parts
 pub mod Numbers
 pub mod inner

@@ -1,2 +1,4 @@
 -- What serves proofs alone.
 pub mod Tables
+pub mod Scopes
+pub mod Parts

@@ -6,8 +6,8 @@ ghost use Rattle.theory_terms.specs.Signature.{found};
 ghost use Rattle.theory_terms.specs.Words.{word_at as bytes_of};
 ghost use Rattle.theory_terms.specs.Meanings.{depth as depth_of, made as made_at, application as application_of, lambda as lambda_of, applied as put_to, sign as sign_at, signed as put_sign, named as name_meaning, const_as, operator_konst, bound as bound_part, quantifier as quantifier_of, quantified as quantified_by, truth as truth_konst};
 ghost use Rattle.std.specs.Option.{option_map};
-ghost use Rattle.theory_terms.specs.Scopes.{variables, numbered_types};
-ghost use Rattle.theory_terms.specs.Parts.{meaning_of, Reads, Makes, sign_of};
+ghost use Rattle.theory_terms.specs.inner.Scopes.{variables, numbered_types};
+ghost use Rattle.theory_terms.specs.inner.Parts.{meaning_of, Reads, Makes, sign_of};
 ghost use Rattle.theory_terms.specs.Numbers.{IsNumbered, AreNumbered, AreNoted, Keeps};
 ghost use Rattle.hol_terms.specs.declared.ty.Ty.{Ty as HolTy};
 

@@ -2,7 +2,7 @@ ghost use Rattle.std.specs.Prelude.{◌≡◌, List, IfOk, IfSome};
 ghost use Rattle.hol_terms.specs.declared.ty.Ty.{Ty as HolTy};
 ghost use Rattle.theory_terms.specs.Signature.{found, further as one_further};
 ghost use Rattle.theory_terms.specs.Numbers.{IsNumbered, AreNumbered};
-ghost use Rattle.theory_terms.specs.Scopes.{variables, numbered_types, lent};
+ghost use Rattle.theory_terms.specs.inner.Scopes.{variables, numbered_types, lent};
 
 use crate::numbered::Numbered;
 use text_kit::NoMemory;

@@ -3,8 +3,8 @@ ghost use Rattle.theory_terms.specs.Answers.{Good, Tells, and_then};
 ghost use Rattle.theory_terms.specs.Words.{word_at as bytes_of};
 ghost use Rattle.theory_terms.specs.Meanings.{meaning, sentence as sentence_of, stated as stated_by, applied as put_to, applied_all, signed as put_sign, bound as bound_by, moved as moved_to};
 ghost use Rattle.theory_terms.specs.Numbers.{IsNumbered, AreNumbered, AreNoted, Keeps};
-ghost use Rattle.theory_terms.specs.Scopes.{variables, numbered_types};
-ghost use Rattle.theory_terms.specs.Parts.{meaning_of, sign_of, Reads};
+ghost use Rattle.theory_terms.specs.inner.Scopes.{variables, numbered_types};
+ghost use Rattle.theory_terms.specs.inner.Parts.{meaning_of, sign_of, Reads};
 
 use crate::decls::Decls;
 use crate::making::{Sign, applied, bound, is_bool, named, signed, truth};

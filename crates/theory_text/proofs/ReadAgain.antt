@@ -17,7 +17,7 @@ use Rattle.theory_reader.specs.Toks.{toks_of}
 use Rattle.theory_reader.specs.Declarations.{Declarations, known}
 use Rattle.theory_reader.specs.Declaring.{nothing}
 use Rattle.theory_reader.specs.Reading.{Reads}
-use Rattle.theory_reader.specs.Stages.{IsSound}
+use Rattle.theory_reader.specs.inner.Stages.{IsSound}
 use Rattle.theory_reader.proofs.Kept.{goal_named}
 use Rattle.theory_reader.proofs.Named.{declares_names}
 use Rattle.theory_reader.proofs.Sound.{theory_sound}

@@ -2,7 +2,7 @@ ghost use Rattle.std.specs.Prelude.{◌≡◌, ◌++◌, ◌∷◌, ◌≤◌, [
 ghost use Rattle.std.specs.List.{prefix_len};
 ghost use Rattle.theory_print.specs.Lexemes.{Name, Colon, Semi, laid, spelling, behind as after};
 ghost use Rattle.theory_print.specs.Printing.{declared_in};
-ghost use Rattle.theory_text.specs.Headings.{opening};
+ghost use Rattle.theory_text.specs.inner.Headings.{opening};
 ghost use Rattle.theory_text.specs.Printed.{type_item, type_items, const_item, const_items, fact_item, assumption_items, goal_item, goal_items, statements, IsWritten, FactsWritten, GoalsWritten, shown};
 
 use hol_terms::Term;

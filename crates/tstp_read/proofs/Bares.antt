@@ -14,7 +14,7 @@ use Rattle.tstp_read.specs.declared.sources.Part.{Part}
 use Rattle.tstp_read.specs.declared.sources.Group.{Group}
 use Rattle.tstp_read.specs.Tokens.{Tok}
 use Rattle.tstp_read.specs.Statements.{Forest, Start, Then, Round, Square, flat, Nests, last, before, parts, first, formula, Refutes, Statement, is_comma, is_mark, is_bracket, is_no_bracket, is_word_kind, word, mark, opening, ending}
-use Rattle.tstp_read.specs.Machine.{bare_of, bare_then, bare_within, is_false, refutes, all_parts, group_then, group_around, part_then}
+use Rattle.tstp_read.specs.inner.Machine.{bare_of, bare_then, bare_within, is_false, refutes, all_parts, group_then, group_around, part_then}
 use Rattle.tstp_read.proofs.Walk.{group_of}
 use Rattle.tstp_read.proofs.Prefixes.{mark_is, word_is}
 use Rattle.tstp_read.proofs.Shapes.{part_of, parts_are, comma_group, plain_group, CommaFree, parts_free, done_parts, free_before, comma_before, plain_before, comma_last, plain_last}

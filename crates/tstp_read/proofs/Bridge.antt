@@ -10,8 +10,8 @@ use Rattle.tstp_read.specs.Statements.{Forest, Statement, IsStatement, parts, Re
 use Rattle.tstp_read.specs.Sources.{Gives, FromParts, HasParent}
 use Rattle.tstp_read.specs.Reached as reached
 use Rattle.tstp_read.specs.Used.{called, AreLeaves}
-use Rattle.tstp_read.specs.Leaves.{HasEntry, RefutesEntry, named}
-use Rattle.tstp_read.specs.Machine.{parents_of, all_parts, given}
+use Rattle.tstp_read.specs.inner.Leaves.{HasEntry, RefutesEntry, named}
+use Rattle.tstp_read.specs.inner.Machine.{parents_of, all_parts, given}
 use Rattle.tstp_read.proofs.Lists.{only, none_in, Contains-here, Contains-there, Contains-cons_cases, All-front, All-back}
 use Rattle.tstp_read.proofs.Walk.{group_of, entry, entries}
 use Rattle.tstp_read.proofs.Prefixes.{entries-append}

@@ -20,11 +20,11 @@ use Rattle.tstp_read.specs.declared.statements.Entry.{Entry}
 use Rattle.tstp_read.specs.Lines.{succeeds, part_of, bytes_of}
 use Rattle.tstp_read.specs.Tokens.{Cut, Into, BadAt, cut, Tok, tokens_of}
 use Rattle.tstp_read.specs.Statements.{Statement, IsList, IsFault, Refutes}
-use Rattle.tstp_read.specs.Machine.{joined}
+use Rattle.tstp_read.specs.inner.Machine.{joined}
 use Rattle.tstp_read.specs.Reached as reached
-use Rattle.tstp_read.specs.Leaves.{HasEntry, RefutesEntry, named, AreEntryLeaves, IsEntryRoot, HasNoRoot}
-use Rattle.tstp_read.specs.Table.{Table, same, look, weight, listed, Puts, Adds, Notes, IsTable, Search, Follows, Goes, Visits, with_todo, Searches, idle, turn}
-use Rattle.tstp_read.specs.Read.{Finishes}
+use Rattle.tstp_read.specs.inner.Leaves.{HasEntry, RefutesEntry, named, AreEntryLeaves, IsEntryRoot, HasNoRoot}
+use Rattle.tstp_read.specs.inner.Table.{Table, same, look, weight, listed, Puts, Adds, Notes, IsTable, Search, Follows, Goes, Visits, with_todo, Searches, idle, turn}
+use Rattle.tstp_read.specs.inner.Read.{Finishes}
 use Rattle.tstp_read.specs.Used.{Answer, NoStatus, NoProof, BadText, Leaves, IsAnswer, PartSays, BytesSay, CutSays, TokensSay, Says, faulty, place_of}
 use Rattle.tstp_read.proofs.Lists.{none_in, Contains-here, Contains-there, Contains-cons_cases}
 use Rattle.tstp_read.proofs.Faults as faults

@@ -9,8 +9,8 @@ use Rattle.tstp_read.specs.declared.statements.Stage.TheVariants as stage
 use Rattle.tstp_read.specs.declared.statements.Reader.{Reader}
 use Rattle.tstp_read.specs.Tokens.{Tok}
 use Rattle.tstp_read.specs.Statements.{Statement, IsStatement, IsList, Begins, NoneGoesOn, IsFault, all_written}
-use Rattle.tstp_read.specs.Machine.{run, then_run, step, begun}
-use Rattle.tstp_read.specs.Read.{Finishes, Refuses, Sticks}
+use Rattle.tstp_read.specs.inner.Machine.{run, then_run, step, begun}
+use Rattle.tstp_read.specs.inner.Read.{Finishes, Refuses, Sticks}
 use Rattle.tstp_read.proofs.Walk.{Reads, complete, run-append, entries}
 use Rattle.tstp_read.proofs.Prefixes.{Held, HeadOf, held_first, held_step, begins}
 

@@ -15,7 +15,7 @@ use Rattle.tstp_read.specs.declared.sources.Group.{Group}
 use Rattle.tstp_read.specs.Tokens.{Tok}
 use Rattle.tstp_read.specs.Statements.{Forest, Start, Then, Round, Square, last, before, parts, is_comma, is_mark, is_name, is_mark_kind}
 use Rattle.tstp_read.specs.Sources.{has_colon, before_colon, IsCalled, Gives, name, file, member, inference}
-use Rattle.tstp_read.specs.Machine.{given, one_token, shape_with_token, shape_then, joined, all_given, leaf_of, of_file, members_of, of_inference, of_call, shape_around}
+use Rattle.tstp_read.specs.inner.Machine.{given, one_token, shape_with_token, shape_then, joined, all_given, leaf_of, of_file, members_of, of_inference, of_call, shape_around}
 use Rattle.tstp_read.proofs.Lists.{only, none_in, Contains-here, Contains-there, Contains-cons_cases}
 use Rattle.tstp_read.proofs.Shapes.{part_of, shape_of, plain_part, CommaFree, parts_free, NameIs, ListIs, name_is, list_is, empty_is, then_plain, round_shape, square_shape, call_cut, token_list, token_given, last_free, free_last, comma_before, comma_last, plain_before, plain_last}
 

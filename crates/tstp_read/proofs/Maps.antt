@@ -16,7 +16,7 @@ use Rattle.std.proofs.lemmas.Map.Lookups.{exact_bytes}
 use Rattle.std.proofs.lemmas.Map.Keys.{sorted_head, sorted_tail}
 use Rattle.std.proofs.lemmas.Bool.{cases_Bool}
 use Rattle.tstp_read.specs.declared.sources.Parent.{Parent}
-use Rattle.tstp_read.specs.Table.{Table, same, look, weight, listed, Puts, Adds, entries_table, keys_names}
+use Rattle.tstp_read.specs.inner.Table.{Table, same, look, weight, listed, Puts, Adds, entries_table, keys_names}
 use Rattle.tstp_read.proofs.Lists.{none_in, Contains-here, Contains-there, Contains-cons_cases}
 use Rattle.tstp_read.proofs.Searching.{same_is, same_self, not_same}
 

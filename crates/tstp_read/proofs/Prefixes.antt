@@ -14,7 +14,7 @@ use Rattle.tstp_read.specs.declared.statements.Stage.TheVariants as stage
 use Rattle.tstp_read.specs.declared.statements.Reader.{Reader}
 use Rattle.tstp_read.specs.Tokens.{Tok}
 use Rattle.tstp_read.specs.Statements.{Forest, Start, Then, Round, Square, flat, Nests, last, before, parts, HasToken, Statement, head, written, all_written, IsStatement, IsList, Begins, is_bracket, is_comma, is_mark, is_name, is_mark_kind, is_word_kind, opening, ending, mark, word}
-use Rattle.tstp_read.specs.Machine.{Last, last_of, fresh, group_then, group_around, all_parts, is_empty, step, step_at, run, then_run, in_body, plain, ends_nothing, opened, closed, ended, entry_of, begun, finished, entered, staged, to_stage, named, is_bottom}
+use Rattle.tstp_read.specs.inner.Machine.{Last, last_of, fresh, group_then, group_around, all_parts, is_empty, step, step_at, run, then_run, in_body, plain, ends_nothing, opened, closed, ended, entry_of, begun, finished, entered, staged, to_stage, named, is_bottom}
 use Rattle.tstp_read.proofs.Walk.{group_of, group_square, full, bare, body, last_of-push, no_bracket, plain_at, entry, entries}
 
 -- ---- tokens by what they are

@@ -7,8 +7,8 @@ use Rattle.tstp_read.specs.declared.statements.Stage.{Stage}
 use Rattle.tstp_read.specs.declared.statements.Stage.TheVariants as stage
 use Rattle.tstp_read.specs.declared.statements.Reader.{Reader}
 use Rattle.tstp_read.specs.Tokens.{Tok, token_of, tokens_of}
-use Rattle.tstp_read.specs.Machine.{is_between, run, then_run, step, begun}
-use Rattle.tstp_read.specs.Read.{Sticks, Finishes}
+use Rattle.tstp_read.specs.inner.Machine.{is_between, run, then_run, step, begun}
+use Rattle.tstp_read.specs.inner.Read.{Sticks, Finishes}
 use Rattle.tstp_read.specs.Used.{place_of}
 use Rattle.tstp_read.proofs.Walk.{run-append}
 

@@ -14,10 +14,10 @@ use Rattle.std.proofs.lemmas.List.Elements.{Contains-append_left, Contains-appen
 use Rattle.tstp_read.specs.declared.sources.Parent.{Parent}
 use Rattle.tstp_read.specs.declared.sources.Parent.TheVariants as parent
 use Rattle.tstp_read.specs.declared.statements.Entry.{Entry}
-use Rattle.tstp_read.specs.Machine.{joined}
+use Rattle.tstp_read.specs.inner.Machine.{joined}
 use Rattle.tstp_read.specs.Reached as reached
-use Rattle.tstp_read.specs.Leaves.{HasEntry, RefutesEntry, named, AreEntryLeaves, IsEntryRoot, HasNoRoot, Found}
-use Rattle.tstp_read.specs.Table.{Table, same, look, weight, listed, Puts, Adds, gathered, IsTable, Search, Follows, Visits, with_todo, Notes, Searches, idle, turn as one_turn}
+use Rattle.tstp_read.specs.inner.Leaves.{HasEntry, RefutesEntry, named, AreEntryLeaves, IsEntryRoot, HasNoRoot, Found}
+use Rattle.tstp_read.specs.inner.Table.{Table, same, look, weight, listed, Puts, Adds, gathered, IsTable, Search, Follows, Visits, with_todo, Notes, Searches, idle, turn as one_turn}
 use Rattle.tstp_read.proofs.Lists.{none_in, Contains-here, Contains-there, Contains-cons_cases}
 use Rattle.tstp_read.proofs.Giving.{joined_left, joined_right, joined_either}
 use Rattle.tstp_read.proofs.Bridge.{ReachedEntry}

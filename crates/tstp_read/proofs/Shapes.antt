@@ -16,7 +16,7 @@ use Rattle.tstp_read.specs.declared.sources.Group.{Group}
 use Rattle.tstp_read.specs.Tokens.{Tok}
 use Rattle.tstp_read.specs.Statements.{Forest, Start, Then, Round, Square, last, before, parts, is_comma, is_mark, is_name, is_mark_kind}
 use Rattle.tstp_read.specs.Sources.{has_colon, before_colon, IsCalled, Gives, name, file, member, inference}
-use Rattle.tstp_read.specs.Machine.{given, one_token, shape_with_token, shape_then, joined, all_given, leaf_of, of_file, members_of, of_inference, of_call, shape_around, no_part, fresh, part_then, all_parts, group_then, group_around, is_empty}
+use Rattle.tstp_read.specs.inner.Machine.{given, one_token, shape_with_token, shape_then, joined, all_given, leaf_of, of_file, members_of, of_inference, of_call, shape_around, no_part, fresh, part_then, all_parts, group_then, group_around, is_empty}
 use Rattle.tstp_read.proofs.Walk.{group_of, group_square, then_full, around_full, call_full}
 
 -- ---- a part by itself

@@ -9,14 +9,14 @@ use Rattle.tstp_read.specs.declared.tokens.CutFault.{CutFault}
 use Rattle.tstp_read.specs.declared.tokens.CutFault.TheVariants as bad
 use Rattle.tstp_read.specs.declared.statements.ReadFault.{ReadFault}
 use Rattle.tstp_read.specs.declared.statements.ReadFault.TheVariants as read
-use Rattle.tstp_read.specs.Refusals.{cut_fault, FitsCut, read_fault, FitsRead}
-use Rattle.tstp_read.specs.Read as places
+use Rattle.tstp_read.specs.inner.Refusals.{cut_fault, FitsCut, read_fault, FitsRead}
+use Rattle.tstp_read.specs.inner.Read as places
 use Rattle.tstp_read.specs.Tokens as tokens
 use Rattle.tstp_read.specs.Tokens.{Cut, Into, cut, tokens_of}
 use Rattle.tstp_read.specs.Statements.{Statement}
 use Rattle.tstp_read.specs.Reached as reached
-use Rattle.tstp_read.specs.Leaves.{HasEntry, RefutesEntry, named, Found, FailsToFind}
-use Rattle.tstp_read.specs.Read.{Finishes, Sticks, StopsAt}
+use Rattle.tstp_read.specs.inner.Leaves.{HasEntry, RefutesEntry, named, Found, FailsToFind}
+use Rattle.tstp_read.specs.inner.Read.{Finishes, Sticks, StopsAt}
 use Rattle.tstp_read.specs.Used.{Answer, NoProof, BadText, Leaves, TokensSay, TokensFail, AsFault, BytesSay, BytesFail, CutSays, place_of, faulty, rootless, rooted}
 use Rattle.tstp_read.proofs.Walk.{entries}
 use Rattle.tstp_read.proofs.Faults as faults

@@ -19,7 +19,7 @@ use Rattle.tstp_read.specs.Lines.{succeeds, part_of, bytes_of}
 use Rattle.tstp_read.specs.Tokens.{Cut, Into, BadAt, cut, Tok, tokens_of}
 use Rattle.tstp_read.specs.Statements.{Statement, IsStatement, IsList, IsFault, Refutes}
 use Rattle.tstp_read.specs.Reached as reached
-use Rattle.tstp_read.specs.Leaves.{HasEntry, RefutesEntry, named}
+use Rattle.tstp_read.specs.inner.Leaves.{HasEntry, RefutesEntry, named}
 use Rattle.tstp_read.specs.Used.{Answer, NoStatus, NoProof, BadText, Leaves, IsAnswer, PartSays, BytesSay, CutSays, TokensSay, Says, faulty, rootless, rooted, place_of, AreLeaves}
 use Rattle.tstp_read.proofs.Lists.{none_in, Contains-here, Contains-there, Contains-cons_cases, All-front, All-back}
 use Rattle.tstp_read.proofs.Walk.{entry, entries, complete}

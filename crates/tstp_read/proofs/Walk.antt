@@ -15,7 +15,7 @@ use Rattle.tstp_read.specs.declared.statements.Stage.TheVariants as stage
 use Rattle.tstp_read.specs.declared.statements.Reader.{Reader}
 use Rattle.tstp_read.specs.Tokens.{Tok}
 use Rattle.tstp_read.specs.Statements.{Forest, Start, Then, Round, Square, flat, Nests, last, before, parts, HasToken, Statement, written, all_written, IsStatement, IsList, is_bracket, is_comma, is_mark, is_name, opening, ending, mark, MAX_DEPTH}
-use Rattle.tstp_read.specs.Machine.{Last, last_of, behind, fresh, group_then, group_around, all_parts, is_empty, step, run, then_run, in_body, plain, ends_nothing, opened, closed, ended, entry_of, begun, shape_then, shape_with_token, one_token, shape_around, of_call, of_file, of_inference, leaf_of, members_of, finished}
+use Rattle.tstp_read.specs.inner.Machine.{Last, last_of, behind, fresh, group_then, group_around, all_parts, is_empty, step, run, then_run, in_body, plain, ends_nothing, opened, closed, ended, entry_of, begun, shape_then, shape_with_token, one_token, shape_around, of_call, of_file, of_inference, leaf_of, members_of, finished}
 
 -- ---- the group that a forest is read as
 

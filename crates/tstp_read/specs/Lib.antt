@@ -4,8 +4,4 @@ pub mod Statements
 pub mod Sources
 pub mod Reached
 pub mod Used
-pub mod Machine
-pub mod Read
-pub mod Leaves
-pub mod Table
-pub mod Refusals
+pub mod inner

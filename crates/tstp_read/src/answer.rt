@@ -1,8 +1,8 @@
 ghost use Rattle.std.specs.Prelude.{◌≡◌, ◌+◌, ◌≤◌, ◌<◌, ◌^◌, ℕ, List, length, All, MatchResult};
 ghost use Rattle.tstp_read.specs.Lines.{bytes_of};
 ghost use Rattle.tstp_read.specs.Tokens.{IsWithin};
-ghost use Rattle.tstp_read.specs.Leaves.{Found, FailsToFind};
-ghost use Rattle.tstp_read.specs.Refusals.{FitsCut, FitsRead, cut_fault, read_fault};
+ghost use Rattle.tstp_read.specs.inner.Leaves.{Found, FailsToFind};
+ghost use Rattle.tstp_read.specs.inner.Refusals.{FitsCut, FitsRead, cut_fault, read_fault};
 ghost use Rattle.tstp_read.specs.Used.{Answer, Leaves, IsAnswer, IsRefusedAs, TokensSay, TokensFail, BytesSay, BytesFail};
 
 use crate::lines::{Span, has_succeeded, proof_part};

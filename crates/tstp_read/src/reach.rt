@@ -3,9 +3,9 @@ ghost use Rattle.std.specs.Ordering.{nat_cmp};
 ghost use Rattle.std.specs.Cmp.Lexicographic.{slice_cmp};
 ghost use Rattle.std.specs.List.Sorted.{IsStrictlySortedBy};
 ghost use Rattle.tstp_read.specs.declared.statements.Entry.{Entry as EntryOf};
-ghost use Rattle.tstp_read.specs.Machine.{joined};
-ghost use Rattle.tstp_read.specs.Leaves.{FindsLeaves, AreEntryLeaves, IsEntryRoot, HasNoRoot};
-ghost use Rattle.tstp_read.specs.Table.{look, listed, Puts, Notes, IsTable, Adds, Goes, Visits, Searches, table_of, names_of, search_of, starting};
+ghost use Rattle.tstp_read.specs.inner.Machine.{joined};
+ghost use Rattle.tstp_read.specs.inner.Leaves.{FindsLeaves, AreEntryLeaves, IsEntryRoot, HasNoRoot};
+ghost use Rattle.tstp_read.specs.inner.Table.{look, listed, Puts, Notes, IsTable, Adds, Goes, Visits, Searches, table_of, names_of, search_of, starting};
 
 use crate::sources::{Parent, join};
 use crate::statements::Entry;

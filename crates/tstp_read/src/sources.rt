@@ -2,7 +2,7 @@ ghost use Rattle.std.specs.Prelude.{◌≡◌, ◌∷◌, ◌++◌, [], IfOk, On
 ghost use Rattle.tstp_read.specs.Tokens.{Tok};
 ghost use Rattle.tstp_read.specs.Statements.{is_mark};
 ghost use Rattle.tstp_read.specs.declared.sources.Shape.TheVariants as shape_is;
-ghost use Rattle.tstp_read.specs.Machine.{given, one_token, shape_with_token, shape_then, joined, all_given, leaf_of, of_file, members_of, of_inference, of_call, shape_around, bare_of, bare_then, bare_within, no_part, fresh, all_parts, part_then, part_around, group_then, group_around};
+ghost use Rattle.tstp_read.specs.inner.Machine.{given, one_token, shape_with_token, shape_then, joined, all_given, leaf_of, of_file, members_of, of_inference, of_call, shape_around, bare_of, bare_then, bare_within, no_part, fresh, all_parts, part_then, part_around, group_then, group_around};
 
 use crate::tokens::Kind;
 use std::alloc::Global;

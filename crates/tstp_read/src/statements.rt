@@ -2,8 +2,8 @@ ghost use Rattle.std.specs.Prelude.{◌≡◌, false, [], ◌∷◌, if◌then�
 ghost use Rattle.tstp_read.specs.declared.sources.Parent.TheVariants as parent;
 ghost use Rattle.tstp_read.specs.declared.tokens.Kind.TheVariants as kind;
 ghost use Rattle.tstp_read.specs.Tokens.{tokens_of, token_of, unescaped, IsWithin};
-ghost use Rattle.tstp_read.specs.Machine.{refutes, parents_of, entry_of, to_stage, named, opened, ended, closed, ends_nothing, plain, in_body, finished, entered, step, last_of, begun, is_empty, is_false, is_between, group_around};
-ghost use Rattle.tstp_read.specs.Read.{Finishes, StopsAt, IsPlaced};
+ghost use Rattle.tstp_read.specs.inner.Machine.{refutes, parents_of, entry_of, to_stage, named, opened, ended, closed, ends_nothing, plain, in_body, finished, entered, step, last_of, begun, is_empty, is_false, is_between, group_around};
+ghost use Rattle.tstp_read.specs.inner.Read.{Finishes, StopsAt, IsPlaced};
 
 use crate::sources::{
     Bare, Group, Parent, Part, Shape, empty_group, given_by, is_mark_of, parts_of, put_group,

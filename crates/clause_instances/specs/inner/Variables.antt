@@ -6,7 +6,7 @@ use Rattle.hol_terms.specs.Types.{is_ty}
 use Rattle.fo_terms.specs.declared.term.FoTerm.{FoTerm}
 use Rattle.fo_terms.specs.declared.literal.Literal.{Literal}
 use Rattle.fo_terms.specs.Substitution.{var}
-use Rattle.fo_terms.specs.Gathered.{all_added}
+use Rattle.fo_terms.specs.inner.Gathered.{all_added}
 use Rattle.tagged_terms.specs.declared.symbol.Symbol.{Symbol}
 use Rattle.tagged_terms.specs.declared.symbol.Symbol.TheVariants.{Tag}
 use Rattle.tagged_terms.specs.Readings.{Signs}

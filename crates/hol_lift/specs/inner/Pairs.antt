@@ -6,7 +6,7 @@ use Rattle.fo_terms.specs.declared.literal.Literal.{Literal}
 use Rattle.fo_terms.specs.Substitution.{put_literals}
 use Rattle.tagged_terms.specs.Readings.{Signs}
 use Rattle.hol_kernel.specs.Logs.{Logged}
-use Rattle.hol_clauses.specs.declared.literal.TypedLiteral.{TypedLiteral}
+use Rattle.hol_terms.specs.declared.literal.TypedLiteral.{TypedLiteral}
 use Rattle.clause_instances.specs.Theorems.{clause_of}
 use Rattle.hol_lift.specs.inner.Typed.{Last, Joins, Rewrites, rewritten}
 

@@ -10,7 +10,7 @@ use Rattle.kernel_rules.specs.Connectives.{falsum, neg, equal, is_equal}
 use Rattle.hol_kernel.specs.Logs.{Logged, IsThm, thm}
 use Rattle.hol_derived.specs.Paths.{part_at, replaced_at}
 use Rattle.tagged_lines.specs.TypedLiterals.{IsIn}
-use Rattle.hol_clauses.specs.declared.literal.TypedLiteral.{TypedLiteral}
+use Rattle.hol_terms.specs.declared.literal.TypedLiteral.{TypedLiteral}
 use Rattle.hol_clauses.specs.Literals.{denied, positive, negative, with_atom, source, target, allowed}
 use Rattle.clause_instances.specs.Theorems.{VarFree}
 

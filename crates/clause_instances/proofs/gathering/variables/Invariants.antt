@@ -1,5 +1,5 @@
 use Rattle.std.proofs.Common.{◌≡◌, [], take}
-use Rattle.fo_terms.specs.Gathered.{all_added}
+use Rattle.fo_terms.specs.inner.Gathered.{all_added}
 use Rattle.tagged_terms.specs.Readings.{signs_of}
 use Rattle.tagged_lines.specs.Tags.{typed_variables}
 use Rattle.clause_instances.specs.inner.Variables.{is_variable}

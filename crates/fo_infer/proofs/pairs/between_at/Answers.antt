@@ -1,5 +1,5 @@
 use Rattle.fo_infer.specs.Inferences.{PairGives, all_resolve_rules, all_para_rules}
-use Rattle.fo_infer.specs.Places.{position_of}
+use Rattle.fo_infer.specs.inner.Places.{position_of}
 use Rattle.fo_infer.proofs.Listing.{listed_both}
 use Rattle.fo_infer.proofs.pairs.between_at.Goals as goal
 

@@ -4,8 +4,8 @@ use Rattle.fo_terms.specs.Weight.{size_of}
 use Rattle.fo_infer.specs.Paths.{at_atom_path, paths_of, behind_places}
 use Rattle.fo_infer.specs.Inferences.{PairGives}
 use Rattle.fo_infer.specs.declared.made.Rule.TheVariants.{Para}
-use Rattle.fo_infer.specs.Adding.{Answered, Adds}
-use Rattle.fo_infer.specs.Places.{position_of, rules_behind}
+use Rattle.fo_infer.specs.inner.Adding.{Answered, Adds}
+use Rattle.fo_infer.specs.inner.Places.{position_of, rules_behind}
 use Rattle.fo_infer.proofs.Listing.{adds_start}
 use Rattle.fo_infer.proofs.Paramodulants.{deeper, walk_var, walk_fun, walk_more, part_size, fun_size, pop_back, got}
 use Rattle.fo_infer.proofs.paramodulating.+walking.Goals as goal

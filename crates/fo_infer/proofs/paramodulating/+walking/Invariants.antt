@@ -2,8 +2,8 @@ use Rattle.std.proofs.Common.{◌≡◌, ◌+◌, ◌*◌, map, sum, take}
 use Rattle.fo_terms.specs.Weight.{size_of}
 use Rattle.fo_infer.specs.Paths.{paths_of, behind_places}
 use Rattle.fo_infer.specs.Inferences.{PairGives}
-use Rattle.fo_infer.specs.Adding.{Adds}
-use Rattle.fo_infer.specs.Places.{position_of, rules_behind}
+use Rattle.fo_infer.specs.inner.Adding.{Adds}
+use Rattle.fo_infer.specs.inner.Places.{position_of, rules_behind}
 use Rattle.fo_infer.proofs.paramodulating.+walking.Given as goal
 
 abbrev pub invariant-walk_all-loop-k : goal.invariant-walk_all-loop-k

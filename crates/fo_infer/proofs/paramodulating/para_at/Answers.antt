@@ -3,7 +3,7 @@ use Rattle.std.specs.Prelude.{slice_set}
 use Rattle.std.specs.List.{remove}
 use Rattle.fo_unify.specs.Unifier.{UnifierOf, IsMostGeneral}
 use Rattle.fo_infer.specs.Inferences.{conclusion, literal_replaced}
-use Rattle.fo_infer.specs.Places.{position_of, NotBelow}
+use Rattle.fo_infer.specs.inner.Places.{position_of, NotBelow}
 use Rattle.fo_infer.proofs.Paramodulants.{no_unifier, is_below, gives_clause, when_not, when_so}
 use Rattle.fo_infer.proofs.paramodulating.para_at.Goals as goal
 

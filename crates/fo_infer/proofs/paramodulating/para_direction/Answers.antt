@@ -2,8 +2,8 @@ use Rattle.std.proofs.Common.{◌≡◌, length, ap, subst, ◌∙◌, sym, arit
 use Rattle.std.specs.List.{flat_map}
 use Rattle.std.proofs.lemmas.List.{length-map}
 use Rattle.fo_infer.specs.Inferences.{PairGives, position_rules, upto}
-use Rattle.fo_infer.specs.Adding.{Adds}
-use Rattle.fo_infer.specs.Places.{position_of}
+use Rattle.fo_infer.specs.inner.Adding.{Adds}
+use Rattle.fo_infer.specs.inner.Places.{position_of}
 use Rattle.fo_infer.proofs.Listing.{adds_start, adds_rows}
 use Rattle.fo_infer.proofs.Paramodulants.{apart_length}
 use Rattle.fo_infer.proofs.paramodulating.para_direction.Goals as goal

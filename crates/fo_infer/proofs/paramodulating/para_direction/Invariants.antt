@@ -1,7 +1,7 @@
 use Rattle.std.specs.List.{flat_map}
 use Rattle.fo_infer.specs.Inferences.{PairGives, position_rules, upto}
-use Rattle.fo_infer.specs.Adding.{Adds}
-use Rattle.fo_infer.specs.Places.{position_of}
+use Rattle.fo_infer.specs.inner.Adding.{Adds}
+use Rattle.fo_infer.specs.inner.Places.{position_of}
 use Rattle.fo_infer.proofs.paramodulating.para_direction.Given as goal
 
 abbrev pub invariant-loop-j : goal.invariant-loop-j

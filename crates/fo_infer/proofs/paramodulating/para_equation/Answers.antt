@@ -1,7 +1,7 @@
 use Rattle.std.proofs.Common.{◌≡◌, true, false, refl, sym, ap, subst, ◌∙◌}
 use Rattle.fo_terms.specs.declared.clause.Clause.{Clause}
 use Rattle.fo_infer.specs.Inferences.{PairGives, direction_rules, para_rules}
-use Rattle.fo_infer.specs.Places.{position_of}
+use Rattle.fo_infer.specs.inner.Places.{position_of}
 use Rattle.fo_infer.proofs.Listing.{adds_none, adds_then}
 use Rattle.fo_infer.proofs.Paramodulants.{each_para, no_source}
 use Rattle.fo_infer.proofs.paramodulating.para_equation.Goals as goal

@@ -3,8 +3,8 @@ use Rattle.fo_terms.specs.declared.clause.Clause.{Clause}
 use Rattle.fo_infer.specs.declared.made.Rule.{Rule}
 use Rattle.fo_infer.specs.declared.made.Rule.TheVariants.{Para}
 use Rattle.fo_infer.specs.Inferences.{PairGives, position_rules, option_paths}
-use Rattle.fo_infer.specs.Adding.{Adds}
-use Rattle.fo_infer.specs.Places.{position_of}
+use Rattle.fo_infer.specs.inner.Adding.{Adds}
+use Rattle.fo_infer.specs.inner.Places.{position_of}
 use Rattle.fo_infer.proofs.Listing.{adds_none}
 use Rattle.fo_infer.proofs.Paramodulants.{each_position}
 use Rattle.fo_infer.proofs.paramodulating.para_literal.Goals as goal

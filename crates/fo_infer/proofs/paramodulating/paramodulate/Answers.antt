@@ -1,8 +1,8 @@
 use Rattle.std.proofs.Common.{◌≡◌, length, subst, arith}
 use Rattle.std.specs.List.{flat_map}
 use Rattle.fo_infer.specs.Inferences.{PairGives, para_rules, renamed_apart, upto}
-use Rattle.fo_infer.specs.Adding.{Adds}
-use Rattle.fo_infer.specs.Places.{position_of}
+use Rattle.fo_infer.specs.inner.Adding.{Adds}
+use Rattle.fo_infer.specs.inner.Places.{position_of}
 use Rattle.fo_infer.proofs.Listing.{adds_start, adds_rows}
 use Rattle.fo_infer.proofs.paramodulating.paramodulate.Goals as goal
 

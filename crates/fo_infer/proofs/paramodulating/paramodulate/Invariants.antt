@@ -1,7 +1,7 @@
 use Rattle.std.specs.List.{flat_map}
 use Rattle.fo_infer.specs.Inferences.{PairGives, para_rules, renamed_apart, upto}
-use Rattle.fo_infer.specs.Adding.{Adds}
-use Rattle.fo_infer.specs.Places.{position_of}
+use Rattle.fo_infer.specs.inner.Adding.{Adds}
+use Rattle.fo_infer.specs.inner.Places.{position_of}
 use Rattle.fo_infer.proofs.paramodulating.paramodulate.Given as goal
 
 abbrev pub invariant-loop-i : goal.invariant-loop-i

@@ -2,8 +2,8 @@ use Rattle.std.proofs.Common.{◌≡◌, [], ◌∷◌, ◌++◌, map, sym, ap, 
 use Rattle.fo_infer.specs.declared.made.Rule.TheVariants.{Para}
 use Rattle.fo_infer.specs.Paths.{paths_of, atom_paths}
 use Rattle.fo_infer.specs.Inferences.{PairGives}
-use Rattle.fo_infer.specs.Adding.{Adds}
-use Rattle.fo_infer.specs.Places.{position_of, rules_behind}
+use Rattle.fo_infer.specs.inner.Adding.{Adds}
+use Rattle.fo_infer.specs.inner.Places.{position_of, rules_behind}
 use Rattle.fo_infer.proofs.Listing.{adds_then}
 use Rattle.fo_infer.proofs.Paramodulants.{term_rules, sides_rules}
 use Rattle.fo_infer.proofs.paramodulating.walk_literal.Goals as goal

@@ -1,8 +1,8 @@
 use Rattle.std.proofs.Common.{◌≡◌, [], ◌∷◌, ◌++◌, ap, subst, ◌∙◌}
 use Rattle.fo_infer.specs.Paths.{paths_of}
 use Rattle.fo_infer.specs.Inferences.{PairGives}
-use Rattle.fo_infer.specs.Adding.{Adds}
-use Rattle.fo_infer.specs.Places.{position_of, rules_behind}
+use Rattle.fo_infer.specs.inner.Adding.{Adds}
+use Rattle.fo_infer.specs.inner.Places.{position_of, rules_behind}
 use Rattle.fo_infer.proofs.paramodulating.walk_side.Goals as goal
 
 pub returns : goal.returns

@@ -1,7 +1,7 @@
 use Rattle.std.proofs.Common.{length}
 use Rattle.std.specs.List.{flat_map}
 use Rattle.fo_infer.specs.Inferences.{Position, PairGives, resolve_rules, upto}
-use Rattle.fo_infer.specs.Adding.{Adds}
+use Rattle.fo_infer.specs.inner.Adding.{Adds}
 use Rattle.fo_infer.proofs.resolving.resolve.Given as goal
 
 abbrev pub invariant-loop-i : goal.invariant-loop-i

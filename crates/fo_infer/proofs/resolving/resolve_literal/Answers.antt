@@ -2,7 +2,7 @@ use Rattle.std.proofs.Common.{◌≡◌, ℕ, refl, map, length, subst, sym, ◌
 use Rattle.fo_terms.specs.declared.clause.Clause.{Clause}
 use Rattle.fo_infer.specs.declared.made.Rule.TheVariants.{Resolve}
 use Rattle.fo_infer.specs.Inferences.{Position, PairGives, upto}
-use Rattle.fo_infer.specs.Adding.{Adds}
+use Rattle.fo_infer.specs.inner.Adding.{Adds}
 use Rattle.fo_infer.proofs.Listing.{adds_start, adds_none, adds_more, each_rule}
 use Rattle.fo_infer.proofs.Resolvents.{no_left}
 use Rattle.fo_infer.proofs.resolving.resolve_literal.Goals as goal

@@ -1,7 +1,7 @@
 use Rattle.std.proofs.Common.{◌≡◌, length, subst, arith}
 use Rattle.std.specs.List.{flat_map}
 use Rattle.fo_infer.specs.Inferences.{AloneGives, factor_rules, upto}
-use Rattle.fo_infer.specs.Adding.{Adds}
+use Rattle.fo_infer.specs.inner.Adding.{Adds}
 use Rattle.fo_infer.proofs.Listing.{adds_start, adds_rows}
 use Rattle.fo_infer.proofs.single.factor.Goals as goal
 

@@ -1,7 +1,7 @@
 use Rattle.std.proofs.Common.{length}
 use Rattle.std.specs.List.{flat_map}
 use Rattle.fo_infer.specs.Inferences.{AloneGives, factor_rules, upto}
-use Rattle.fo_infer.specs.Adding.{Adds}
+use Rattle.fo_infer.specs.inner.Adding.{Adds}
 use Rattle.fo_infer.proofs.single.factor.Given as goal
 
 abbrev pub invariant-loop-i : goal.invariant-loop-i

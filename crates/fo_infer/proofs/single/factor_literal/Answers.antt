@@ -1,7 +1,7 @@
 use Rattle.std.proofs.Common.{◌≡◌, map, length, subst, arith}
 use Rattle.fo_infer.specs.declared.made.Rule.TheVariants.{Factor}
 use Rattle.fo_infer.specs.Inferences.{AloneGives, upto}
-use Rattle.fo_infer.specs.Adding.{Adds}
+use Rattle.fo_infer.specs.inner.Adding.{Adds}
 use Rattle.fo_infer.proofs.Listing.{adds_start, adds_more}
 use Rattle.fo_infer.proofs.single.factor_literal.Goals as goal
 

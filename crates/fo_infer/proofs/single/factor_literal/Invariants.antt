@@ -1,7 +1,7 @@
 use Rattle.std.proofs.Common.{map}
 use Rattle.fo_infer.specs.declared.made.Rule.TheVariants.{Factor}
 use Rattle.fo_infer.specs.Inferences.{AloneGives, upto}
-use Rattle.fo_infer.specs.Adding.{Adds}
+use Rattle.fo_infer.specs.inner.Adding.{Adds}
 use Rattle.fo_infer.proofs.single.factor_literal.Given as goal
 
 abbrev pub invariant-loop-j : goal.invariant-loop-j

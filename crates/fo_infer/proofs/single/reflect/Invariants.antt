@@ -1,7 +1,7 @@
 use Rattle.std.proofs.Common.{map}
 use Rattle.fo_infer.specs.declared.made.Rule.TheVariants.{Reflex}
 use Rattle.fo_infer.specs.Inferences.{AloneGives, upto}
-use Rattle.fo_infer.specs.Adding.{Adds}
+use Rattle.fo_infer.specs.inner.Adding.{Adds}
 use Rattle.fo_infer.proofs.single.reflect.Given as goal
 
 abbrev pub invariant-loop-i : goal.invariant-loop-i

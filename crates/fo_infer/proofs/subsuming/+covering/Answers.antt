@@ -4,7 +4,7 @@ use Rattle.fo_terms.specs.declared.literal.Literal.{Literal}
 use Rattle.fo_terms.specs.Substitution.{put_literal}
 use Rattle.fo_unify.specs.Shown.{as_binds}
 use Rattle.fo_unify.proofs.Closing.{drop_read}
-use Rattle.fo_infer.specs.Covering.{Narrows, Covers, CoversBy, CoverableBy}
+use Rattle.fo_infer.specs.inner.Covering.{Narrows, Covers, CoversBy, CoverableBy}
 use Rattle.fo_infer.proofs.Narrowing.{NoneBefore, covered_all, by_not, by_next, found_one, found_none, none_more}
 use Rattle.fo_infer.proofs.subsuming.+covering.Goals as goal
 

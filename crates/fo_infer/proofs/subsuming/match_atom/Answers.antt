@@ -1,7 +1,7 @@
 use Rattle.std.proofs.Common.{◌≡◌, true, false, subst}
 use Rattle.fo_terms.specs.Substitution.{put}
 use Rattle.fo_unify.specs.Shown.{as_binds}
-use Rattle.fo_infer.specs.Covering.{Narrows}
+use Rattle.fo_infer.specs.inner.Covering.{Narrows}
 use Rattle.fo_infer.proofs.Narrowing.{atom_holds, atom_sides, narrows_then, narrows_not}
 use Rattle.fo_infer.proofs.subsuming.match_atom.Goals as goal
 

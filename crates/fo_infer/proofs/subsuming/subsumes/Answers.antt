@@ -1,6 +1,6 @@
 use Rattle.std.proofs.Common.{◌≡◌, ◌≤◌, drop, length, ap, subst, arith}
 use Rattle.fo_unify.specs.Shown.{as_binds}
-use Rattle.fo_infer.specs.Covering.{Covers}
+use Rattle.fo_infer.specs.inner.Covering.{Covers}
 use Rattle.fo_infer.proofs.Narrowing.{subsumes_is}
 use Rattle.fo_infer.proofs.subsuming.subsumes.Goals as goal
 

@@ -1,7 +1,7 @@
 use Rattle.std.proofs.Common.{◌≡◌, drop}
 use Rattle.std.specs.List.{list_any}
 use Rattle.fo_terms.specs.Same.{is_literal}
-use Rattle.fo_terms.specs.Gathered.{lent}
+use Rattle.fo_terms.specs.inner.Gathered.{lent}
 use Rattle.fo_terms.proofs.normal.holds.Given as goal
 
 abbrev pub invariant-loop-m : goal.invariant-loop-m

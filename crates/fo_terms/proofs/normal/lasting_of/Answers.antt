@@ -1,4 +1,4 @@
-use Rattle.fo_terms.specs.Gathered.{lent}
+use Rattle.fo_terms.specs.inner.Gathered.{lent}
 use Rattle.fo_terms.proofs.Gathering.{lasting_more}
 use Rattle.fo_terms.proofs.normal.lasting_of.Goals as goal
 

@@ -1,7 +1,7 @@
 use Rattle.std.proofs.Common.{◌≡◌, ◌++◌, ◌∷◌, [], map, sum, ◌∙◌, sym, ap, arith}
 use Rattle.fo_terms.specs.Weight.{size_of}
 use Rattle.fo_terms.specs.Substitution.{put, fun}
-use Rattle.fo_unify.specs.Triangle.{solution}
+use Rattle.fo_unify.specs.inner.Triangle.{solution}
 use Rattle.fo_unify.specs.Shown.{as_binds}
 use Rattle.fo_unify.proofs.Reaching.{put_to_var, put_to_fun, reach_size, part_size}
 use Rattle.fo_unify.proofs.Closing.{map_more}

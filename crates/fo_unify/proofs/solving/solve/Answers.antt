@@ -2,9 +2,9 @@ use Rattle.std.proofs.Common.{◌≡◌, [], ◌∙◌, sym, ap, subst, rules}
 use Rattle.fo_unify.specs.declared.triangle.Found.TheVariants.{Done, Clash, Binds}
 use Rattle.fo_unify.specs.Unifier.{IsMostGeneral}
 use Rattle.fo_unify.specs.Unified.{Unified}
-use Rattle.fo_unify.specs.Triangle.{resolved}
+use Rattle.fo_unify.specs.inner.Triangle.{resolved}
 use Rattle.fo_unify.specs.Shown.{as_binds, shown}
-use Rattle.fo_unify.specs.Leads.{Leads}
+use Rattle.fo_unify.specs.inner.Leads.{Leads}
 use Rattle.fo_unify.proofs.Closing.{most_general}
 use Rattle.fo_unify.proofs.Growing.{binds_push, grown_good, grown_keeps, grown_back}
 use Rattle.fo_unify.proofs.RuleForm.{Reaches, reaches_start, reaches_end, reaches_push}

@@ -1,7 +1,7 @@
 use Rattle.std.proofs.Common.{◌-◌, ◌^◌, ℕ, length}
 use Rattle.fo_terms.specs.declared.term.FoTerm.{FoTerm}
 use Rattle.fo_unify.specs.Unifier.{Unifies}
-use Rattle.fo_unify.specs.Triangle.{Good, Solves}
+use Rattle.fo_unify.specs.inner.Triangle.{Good, Solves}
 use Rattle.fo_unify.specs.Shown.{as_binds, shown}
 use Rattle.fo_unify.proofs.RuleForm.{Reaches}
 use Rattle.fo_unify.proofs.solving.solve.Given as goal

@@ -1,7 +1,7 @@
 use Rattle.std.proofs.Common.{◌≡◌, ◌+◌, ◌*◌, drop, map, sum}
 use Rattle.fo_terms.specs.Weight.{size_of}
 use Rattle.fo_terms.specs.Substitution.{put, occurs_in_any}
-use Rattle.fo_unify.specs.Triangle.{solution}
+use Rattle.fo_unify.specs.inner.Triangle.{solution}
 use Rattle.fo_unify.specs.Shown.{as_binds}
 use Rattle.fo_unify.proofs.triangle.+reaching.Given as goal
 

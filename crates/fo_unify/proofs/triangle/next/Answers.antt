@@ -1,9 +1,9 @@
 use Rattle.std.proofs.Common.{[], sym, subst}
 use Rattle.fo_unify.specs.Unifier.{Unifies}
 use Rattle.fo_unify.specs.Unified.{put_sides, Unified, done}
-use Rattle.fo_unify.specs.Triangle.{solution}
+use Rattle.fo_unify.specs.inner.Triangle.{solution}
 use Rattle.fo_unify.specs.Shown.{as_binds, shown}
-use Rattle.fo_unify.specs.Leads.{Goes}
+use Rattle.fo_unify.specs.inner.Leads.{Goes}
 use Rattle.fo_unify.proofs.Reducing.{shown_push, goes_done, goes_carries, goes_smaller, goes_clash, goes_binds, goes_binding}
 use Rattle.fo_unify.proofs.triangle.next.Goals as goal
 

@@ -1,7 +1,7 @@
 use Rattle.fo_unify.specs.Unifier.{Unifies}
 use Rattle.fo_unify.specs.Shown.{as_binds, shown}
-use Rattle.fo_unify.specs.Triangle.{left_size, solution}
-use Rattle.fo_unify.specs.Leads.{Under, Carries}
+use Rattle.fo_unify.specs.inner.Triangle.{left_size, solution}
+use Rattle.fo_unify.specs.inner.Leads.{Under, Carries}
 use Rattle.fo_unify.proofs.triangle.next.Given as goal
 
 abbrev pub invariant-loop-e : goal.invariant-loop-e

@@ -1,6 +1,6 @@
 use Rattle.std.proofs.Common.{subst}
 use Rattle.std.specs.Option.{IfSome}
-use Rattle.ground_metis.specs.Searches.{IsLineAfter}
+use Rattle.ground_metis.specs.inner.Searches.{IsLineAfter}
 use Rattle.ground_metis.proofs.Derivations.{offer_leads}
 use Rattle.ground_metis.proofs.search.infer.Goals as goal
 

@@ -1,5 +1,5 @@
 use Rattle.std.proofs.Common.{subst}
-use Rattle.ground_metis.specs.Searches.{Leads}
+use Rattle.ground_metis.specs.inner.Searches.{Leads}
 use Rattle.ground_metis.proofs.Derivations.{leads_on}
 use Rattle.ground_metis.proofs.search.infer_both.Goals as goal
 

@@ -1,6 +1,6 @@
 use Rattle.std.proofs.Common.{subst, sym}
 use Rattle.ground_metis.specs.Ground.{AllIn, IsDerivation}
-use Rattle.ground_metis.specs.Searches.{IsGood}
+use Rattle.ground_metis.specs.inner.Searches.{IsGood}
 use Rattle.ground_metis.proofs.Derivations.{good_derives, input_good, nothing_derived}
 use Rattle.ground_metis.proofs.search.offer_inputs.Goals as goal
 

@@ -1,5 +1,5 @@
 use Rattle.std.proofs.Common.{subst}
-use Rattle.ground_metis.specs.Searches.{IsGood}
+use Rattle.ground_metis.specs.inner.Searches.{IsGood}
 use Rattle.ground_metis.proofs.Derivations.{good_derives}
 use Rattle.ground_metis.proofs.search.pick_all.Goals as goal
 

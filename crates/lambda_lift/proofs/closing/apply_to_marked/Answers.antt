@@ -2,7 +2,7 @@ use Rattle.std.proofs.Common.{◌≡◌, ◌∙◌, ◌-◌, sym, ap, arith, tru
 use Rattle.std.proofs.lemmas.Option.{unwrap_or-slice_get}
 use Rattle.hol_terms.specs.declared.term.Term as term
 use Rattle.lambda_lift.specs.Closing.{variables, applied_to}
-use Rattle.lambda_lift.specs.Marks.{passes}
+use Rattle.lambda_lift.specs.inner.Marks.{passes}
 use Rattle.lambda_lift.proofs.Made.{app_is, bound_is}
 use Rattle.lambda_lift.proofs.Occurring.{applied_taken, applied_passed}
 use Rattle.lambda_lift.proofs.closing.apply_to_marked.Goals as goal

@@ -1,6 +1,6 @@
 use Rattle.std.proofs.Common.{◌≡◌, ◌≤◌, length}
 use Rattle.lambda_lift.specs.Closing.{variables, applied_to}
-use Rattle.lambda_lift.specs.Marks.{passes}
+use Rattle.lambda_lift.specs.inner.Marks.{passes}
 use Rattle.lambda_lift.proofs.closing.apply_to_marked.Given as goal
 
 abbrev pub decreases-loop-v : goal.decreases-loop-v

@@ -2,7 +2,7 @@ use Rattle.std.proofs.Common.{◌∙◌, map, length}
 use Rattle.std.proofs.lemmas.Result.{IfOk-weaker}
 use Rattle.lambda_lift.specs.Scopes.{scope_types}
 use Rattle.lambda_lift.specs.Closing.{lambdas, ty_at, variables, lambda_of}
-use Rattle.lambda_lift.specs.Marks.{passes, index_in}
+use Rattle.lambda_lift.specs.inner.Marks.{passes, index_in}
 use Rattle.lambda_lift.proofs.Occurring.{as_closed}
 use Rattle.lambda_lift.proofs.closing.close.Goals as goal
 

@@ -1,5 +1,5 @@
 use Rattle.std.proofs.Common.{arith}
-use Rattle.lambda_lift.specs.Marks.{passes}
+use Rattle.lambda_lift.specs.inner.Marks.{passes}
 use Rattle.lambda_lift.proofs.Occurring.{fewer}
 use Rattle.lambda_lift.proofs.closing.places.Goals as goal
 

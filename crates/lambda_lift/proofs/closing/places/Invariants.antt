@@ -1,5 +1,5 @@
 use Rattle.std.proofs.Common.{length}
-use Rattle.lambda_lift.specs.Marks.{passes}
+use Rattle.lambda_lift.specs.inner.Marks.{passes}
 use Rattle.lambda_lift.proofs.Binding.{Placed}
 use Rattle.lambda_lift.proofs.closing.places.Given as goal
 

@@ -1,7 +1,7 @@
 use Rattle.std.proofs.Common.{◌≡◌, map}
 use Rattle.lambda_lift.specs.Scopes.{scope_types}
 use Rattle.lambda_lift.specs.Closing.{variables, lambdas, ty_at}
-use Rattle.lambda_lift.specs.Marks.{passes}
+use Rattle.lambda_lift.specs.inner.Marks.{passes}
 use Rattle.lambda_lift.proofs.closing.under_lambdas.Given as goal
 
 abbrev pub invariant-loop-v : goal.invariant-loop-v

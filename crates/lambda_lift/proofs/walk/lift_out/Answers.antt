@@ -3,7 +3,7 @@ use Rattle.std.proofs.lemmas.Result.{IfOk-weaker}
 use Rattle.hol_terms.specs.declared.konst.Konst.TheVariants as konst
 use Rattle.lambda_lift.specs.Scopes.{scope_types}
 use Rattle.lambda_lift.specs.Closing.{variables, applied_to}
-use Rattle.lambda_lift.specs.Marks.{passes}
+use Rattle.lambda_lift.specs.inner.Marks.{passes}
 use Rattle.lambda_lift.proofs.Made.{con_is}
 use Rattle.lambda_lift.proofs.Ending.{out_ends}
 use Rattle.lambda_lift.proofs.walk.lift_out.Goals as goal

@@ -1,5 +1,5 @@
 use Rattle.std.proofs.Common.{subst}
-use Rattle.proof_reader.specs.Parts.{FailsSteps, GotSteps}
+use Rattle.proof_reader.specs.inner.Parts.{FailsSteps, GotSteps}
 use Rattle.proof_reader.proofs.TextPieces as pieces
 use Rattle.proof_reader.proofs.reader.read_body.Goals as goal
 

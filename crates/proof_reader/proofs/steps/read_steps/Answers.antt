@@ -1,7 +1,7 @@
 use Rattle.std.proofs.Common.{subst, decimal, ◌≡◌, ◌∷◌}
 use Rattle.proof_words.specs.Sharing.{IsOneOf}
 use Rattle.proof_syntax.specs.Tokens.{Word, cut}
-use Rattle.proof_reader.specs.Words.{FailsWord, openings}
+use Rattle.proof_reader.specs.inner.Words.{FailsWord, openings}
 use Rattle.proof_reader.proofs.AllPieces as pieces
 use Rattle.proof_reader.proofs.steps.read_steps.Goals as goal
 

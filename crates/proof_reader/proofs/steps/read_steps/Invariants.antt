@@ -1,5 +1,5 @@
 use Rattle.std.proofs.Common.{length}
-use Rattle.proof_reader.specs.Parts.{StepsSoFar}
+use Rattle.proof_reader.specs.inner.Parts.{StepsSoFar}
 use Rattle.proof_reader.proofs.steps.read_steps.Given as goal
 
 abbrev pub invariant-steps : goal.invariant-steps

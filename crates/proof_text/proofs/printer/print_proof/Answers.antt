@@ -1,7 +1,7 @@
 use Rattle.std.proofs.Common.{◌≡◌, ◌∙◌, IsTrue, ap, sym, subst}
 use Rattle.proof_syntax.specs.Reading.{Reads}
 use Rattle.proof_syntax.specs.Texts.{proof_text}
-use Rattle.proof_text.specs.Fitting.{steps_fit}
+use Rattle.proof_text.specs.inner.Fitting.{steps_fit}
 use Rattle.proof_text.proofs.ReadAgain.{read_again, both_ok}
 use Rattle.proof_text.proofs.printer.print_proof.Goals as goal
 

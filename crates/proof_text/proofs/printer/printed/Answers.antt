@@ -1,6 +1,6 @@
 use Rattle.std.proofs.Common.{◌++◌, ◌∙◌, ap, codes}
 use Rattle.theory_reader.proofs.Envs.{stands_behind}
-use Rattle.proof_text.specs.Vocabularies.{declared_names}
+use Rattle.proof_text.specs.inner.Vocabularies.{declared_names}
 use Rattle.proof_text.proofs.Joined.{whole_text}
 use Rattle.proof_text.proofs.printer.printed.Goals as goal
 

@@ -1,8 +1,8 @@
 use Rattle.std.proofs.Common.{◌≡◌, ◌++◌, take, IsTrue}
 use Rattle.proof_syntax.specs.Texts.{args_text}
-use Rattle.proof_text.specs.Fitting.{args_fit}
-use Rattle.proof_text.specs.Arguments.{args_of}
-use Rattle.proof_text.specs.Vocabularies.{declared_names}
+use Rattle.proof_text.specs.inner.Fitting.{args_fit}
+use Rattle.proof_text.specs.inner.Arguments.{args_of}
+use Rattle.proof_text.specs.inner.Vocabularies.{declared_names}
 use Rattle.proof_text.proofs.steps.put.Given as goal
 
 abbrev pub invariant-loop-part : goal.invariant-loop-part

@@ -1,4 +1,4 @@
-use Rattle.proof_text.specs.Vocabularies.{declared_names}
+use Rattle.proof_text.specs.inner.Vocabularies.{declared_names}
 use Rattle.proof_text.proofs.StepTexts.{next_text, next_fits}
 use Rattle.proof_text.proofs.steps.put_steps.Goals as goal
 

@@ -1,7 +1,7 @@
 use Rattle.std.proofs.Common.{◌≡◌, ◌++◌, take, IsTrue}
 use Rattle.proof_syntax.specs.Texts.{steps_text}
-use Rattle.proof_text.specs.Fitting.{steps_fit}
-use Rattle.proof_text.specs.Vocabularies.{declared_names}
+use Rattle.proof_text.specs.inner.Fitting.{steps_fit}
+use Rattle.proof_text.specs.inner.Vocabularies.{declared_names}
 use Rattle.proof_text.proofs.steps.put_steps.Given as goal
 
 abbrev pub invariant-loop-number : goal.invariant-loop-number

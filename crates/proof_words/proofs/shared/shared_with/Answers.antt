@@ -1,7 +1,7 @@
 use Rattle.std.proofs.Common.{◌≡◌, map, ap, subst, arith, length, ◌≤◌}
 use Rattle.std.proofs.lemmas.List.{drop_all}
 use Rattle.proof_words.specs.Sharing.{Shares, IsOneOf}
-use Rattle.proof_words.specs.Steps.{most_shared}
+use Rattle.proof_words.specs.inner.Steps.{most_shared}
 use Rattle.proof_words.proofs.Fronts.{shares}
 use Rattle.proof_words.proofs.shared.shared_with.Goals as goal
 

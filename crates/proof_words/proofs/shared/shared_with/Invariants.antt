@@ -1,5 +1,5 @@
 use Rattle.std.proofs.Common.{◌≡◌, max, map, drop}
-use Rattle.proof_words.specs.Steps.{most_shared}
+use Rattle.proof_words.specs.inner.Steps.{most_shared}
 use Rattle.proof_words.proofs.shared.shared_with.Given as goal
 
 abbrev pub invariant-loop-other : goal.invariant-loop-other

@@ -1,7 +1,7 @@
 use Rattle.std.proofs.Common.{◌≡◌, ap, sym, subst, ◌∙◌}
 use Rattle.theory_terms.specs.Answers.{Good, Refused}
 use Rattle.theory_reader.specs.Declaring.{assumption}
-use Rattle.theory_reader.specs.Stages.{so_far, Agrees}
+use Rattle.theory_reader.specs.inner.Stages.{so_far, Agrees}
 use Rattle.theory_reader.proofs.Assumed.{one_more, refused}
 use Rattle.theory_reader.proofs.assume.assumed.Goals as goal
 

@@ -1,7 +1,7 @@
 use Rattle.std.proofs.Common.{◌≡◌, [], drop}
 use Rattle.theory_reader.specs.Sound.{fact_names}
 use Rattle.theory_reader.specs.Declaring.{assumptions}
-use Rattle.theory_reader.specs.Stages.{so_far, Agrees}
+use Rattle.theory_reader.specs.inner.Stages.{so_far, Agrees}
 use Rattle.theory_reader.proofs.assume.assumed.Given as goal
 
 abbrev pub invariant-loop-hyp : goal.invariant-loop-hyp

@@ -1,6 +1,6 @@
 use Rattle.std.proofs.Common.{◌≡◌, drop}
 use Rattle.theory_reader.specs.Declaring.{declared_all}
-use Rattle.theory_reader.specs.Stages.{so_far, Agrees}
+use Rattle.theory_reader.specs.inner.Stages.{so_far, Agrees}
 use Rattle.theory_reader.proofs.declare.declare.Given as goal
 
 abbrev pub invariant-loop-d : goal.invariant-loop-d

@@ -1,6 +1,6 @@
 use Rattle.std.proofs.Common.{◌∙◌, ap, sym}
 use Rattle.theory_reader.specs.Declaring.{declared_all}
-use Rattle.theory_reader.specs.Stages.{so_far}
+use Rattle.theory_reader.specs.inner.Stages.{so_far}
 use Rattle.theory_reader.proofs.Sound.{theory_sound}
 use Rattle.theory_reader.proofs.reader.declared.Goals as goal
 

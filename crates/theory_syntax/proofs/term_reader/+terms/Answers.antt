@@ -1,6 +1,6 @@
 use Rattle.std.proofs.Common.{◌∷◌, subst, ap, ◌∙◌}
 use Rattle.std.proofs.lemmas.Result.{MatchResult-weaker}
-use Rattle.theory_syntax.specs.Parts.{IsNot}
+use Rattle.theory_syntax.specs.inner.Parts.{IsNot}
 use Rattle.theory_syntax.proofs.TermPieces as pieces
 use Rattle.theory_syntax.proofs.term_reader.+terms.Goals as goal
 

@@ -1,5 +1,5 @@
 use Rattle.std.proofs.Common.{length}
-use Rattle.theory_syntax.specs.Parts.{GotHyps}
+use Rattle.theory_syntax.specs.inner.Parts.{GotHyps}
 use Rattle.theory_syntax.proofs.text_reader.hyps.Given as goal
 
 abbrev pub invariant-more : goal.invariant-more

@@ -10,7 +10,7 @@ use Rattle.theory_terms.specs.Words.{word_at}
 use Rattle.theory_terms.specs.Signature.{found}
 use Rattle.theory_terms.specs.Meanings.{Meaning, named_as}
 use Rattle.theory_terms.specs.Numbers.{IsNumbered}
-use Rattle.theory_terms.specs.Scopes.{variables, lent}
+use Rattle.theory_terms.specs.inner.Scopes.{variables, lent}
 use Rattle.theory_terms.proofs.making.named.Goals as goal
 
 abbrev part : ℕ → Term → Ty → Meaning

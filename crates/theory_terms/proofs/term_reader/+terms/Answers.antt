@@ -1,8 +1,8 @@
 use Rattle.std.proofs.Common.{◌≡◌, map, sym, ap, subst, ◌∙◌, rules}
 use Rattle.theory_terms.specs.Answers.{Refused}
 use Rattle.theory_terms.specs.Meanings.{meaning}
-use Rattle.theory_terms.specs.Scopes.{variables, numbered_types}
-use Rattle.theory_terms.specs.Parts.{meaning_of}
+use Rattle.theory_terms.specs.inner.Scopes.{variables, numbered_types}
+use Rattle.theory_terms.specs.inner.Parts.{meaning_of}
 use Rattle.theory_terms.proofs.Equations.{meaning_apply}
 use Rattle.theory_terms.proofs.Arguments.{goes_on, is_refused, refused_all}
 use Rattle.theory_terms.proofs.Kept.{keeps_all, keeps_noted}

@@ -2,8 +2,8 @@ use Rattle.std.proofs.Common.{◌≡◌, map, drop}
 use Rattle.theory_terms.specs.Answers.{Good}
 use Rattle.theory_terms.specs.Meanings.{meaning, applied_all}
 use Rattle.theory_terms.specs.Numbers.{IsNumbered, AreNumbered, AreNoted, Keeps}
-use Rattle.theory_terms.specs.Scopes.{variables, numbered_types}
-use Rattle.theory_terms.specs.Parts.{meaning_of}
+use Rattle.theory_terms.specs.inner.Scopes.{variables, numbered_types}
+use Rattle.theory_terms.specs.inner.Parts.{meaning_of}
 use Rattle.theory_terms.proofs.term_reader.+terms.Given as goal
 
 abbrev pub invariant-arguments-loop-x : goal.invariant-arguments-loop-x

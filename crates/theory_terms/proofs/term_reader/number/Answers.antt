@@ -1,4 +1,4 @@
-use Rattle.theory_terms.specs.Scopes.{numbered_types}
+use Rattle.theory_terms.specs.inner.Scopes.{numbered_types}
 use Rattle.theory_terms.proofs.Kept.{keeps_all, keeps_noted}
 use Rattle.theory_terms.proofs.term_reader.number.Goals as goal
 

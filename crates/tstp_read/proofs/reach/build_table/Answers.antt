@@ -1,5 +1,5 @@
 use Rattle.std.proofs.Common.{◌∙◌, ap, ◌∷◌, ◌++◌, [], append_assoc}
-use Rattle.tstp_read.specs.Table.{table_of}
+use Rattle.tstp_read.specs.inner.Table.{table_of}
 use Rattle.tstp_read.proofs.Searching as searching
 use Rattle.tstp_read.proofs.reach.build_table.Goals as goal
 

@@ -1,6 +1,6 @@
 use Rattle.std.proofs.Common.{◌≡◌, ◌++◌, List, length}
 use Rattle.tstp_read.specs.declared.statements.Entry.{Entry}
-use Rattle.tstp_read.specs.Table.{IsTable, table_of}
+use Rattle.tstp_read.specs.inner.Table.{IsTable, table_of}
 use Rattle.tstp_read.proofs.reach.build_table.Given as goal
 
 abbrev pub invariant-entries : goal.invariant-entries

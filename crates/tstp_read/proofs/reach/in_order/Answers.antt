@@ -1,5 +1,5 @@
 use Rattle.std.proofs.Common.{sym, ap, ◌++◌}
-use Rattle.tstp_read.specs.Table.{names_of}
+use Rattle.tstp_read.specs.inner.Table.{names_of}
 use Rattle.tstp_read.proofs.Maps as maps
 use Rattle.tstp_read.proofs.reach.in_order.Goals as goal
 

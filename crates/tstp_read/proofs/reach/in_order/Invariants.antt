@@ -2,7 +2,7 @@ use Rattle.std.proofs.Common.{◌≡◌, ◌++◌, length}
 use Rattle.std.specs.Ordering.{nat_cmp}
 use Rattle.std.specs.Cmp.Lexicographic.{slice_cmp}
 use Rattle.std.specs.List.Sorted.{IsStrictlySortedBy}
-use Rattle.tstp_read.specs.Table.{names_of}
+use Rattle.tstp_read.specs.inner.Table.{names_of}
 use Rattle.tstp_read.proofs.reach.in_order.Given as goal
 
 abbrev pub invariant-names : goal.invariant-names

@@ -1,6 +1,6 @@
 use Rattle.std.proofs.Common.{◌∙◌, sym, ap}
-use Rattle.tstp_read.specs.Leaves.{AreEntryLeaves}
-use Rattle.tstp_read.specs.Table.{table_of, names_of, search_of}
+use Rattle.tstp_read.specs.inner.Leaves.{AreEntryLeaves}
+use Rattle.tstp_read.specs.inner.Table.{table_of, names_of, search_of}
 use Rattle.tstp_read.proofs.Searching as searching
 use Rattle.tstp_read.proofs.reach.leaves_from.Goals as goal
 

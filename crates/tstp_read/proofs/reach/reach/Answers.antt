@@ -1,5 +1,5 @@
 use Rattle.std.proofs.Common.{◌∙◌, sym, subst}
-use Rattle.tstp_read.specs.Table.{Searches, search_of, idle, turn}
+use Rattle.tstp_read.specs.inner.Table.{Searches, search_of, idle, turn}
 use Rattle.tstp_read.proofs.reach.reach.Goals as goal
 
 pub todo-preserved : goal.todo-preserved

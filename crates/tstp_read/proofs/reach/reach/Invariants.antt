@@ -1,4 +1,4 @@
-use Rattle.tstp_read.specs.Table.{Search, Searches, search_of, starting}
+use Rattle.tstp_read.specs.inner.Table.{Search, Searches, search_of, starting}
 use Rattle.tstp_read.proofs.Searching.{load}
 use Rattle.tstp_read.proofs.reach.reach.Given as goal
 

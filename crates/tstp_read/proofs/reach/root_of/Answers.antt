@@ -1,7 +1,7 @@
 use Rattle.std.proofs.Common.{◌∙◌, sym, ap, subst}
 use Rattle.std.proofs.lemmas.List.{take_all}
 use Rattle.std.proofs.lemmas.Option.{get_or_from_slice_get}
-use Rattle.tstp_read.specs.Leaves.{HasNoRoot}
+use Rattle.tstp_read.specs.inner.Leaves.{HasNoRoot}
 use Rattle.tstp_read.proofs.Searching as searching
 use Rattle.tstp_read.proofs.reach.root_of.Goals as goal
 

@@ -1,5 +1,5 @@
 use Rattle.std.proofs.Common.{◌∙◌, sym, ap}
-use Rattle.tstp_read.specs.Table.{look, listed, entries_table, table_of}
+use Rattle.tstp_read.specs.inner.Table.{look, listed, entries_table, table_of}
 use Rattle.tstp_read.proofs.Maps as maps
 use Rattle.tstp_read.proofs.reach.taken.Goals as goal
 

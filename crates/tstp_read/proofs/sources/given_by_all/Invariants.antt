@@ -1,6 +1,6 @@
 use Rattle.std.proofs.Common.{◌≡◌, ◌++◌, List, length}
 use Rattle.tstp_read.specs.declared.sources.Part.{Part}
-use Rattle.tstp_read.specs.Machine.{all_given}
+use Rattle.tstp_read.specs.inner.Machine.{all_given}
 use Rattle.tstp_read.proofs.sources.given_by_all.Given as goal
 
 abbrev pub invariant-parts : goal.invariant-parts

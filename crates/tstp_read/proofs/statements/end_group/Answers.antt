@@ -1,5 +1,5 @@
 use Rattle.std.proofs.Common.{◌∙◌, ap, sym, Some}
-use Rattle.tstp_read.specs.Machine.{ended, last_of}
+use Rattle.tstp_read.specs.inner.Machine.{ended, last_of}
 use Rattle.tstp_read.proofs.Walk.{last_of-push}
 use Rattle.tstp_read.proofs.statements.end_group.Goals as goal
 

@@ -1,7 +1,7 @@
 use Rattle.std.proofs.Common.{◌≡◌, ◌==◌, ap, ◌∙◌}
 use Rattle.fo_terms.specs.Substitution.{put_literals}
 use Rattle.fo_terms.specs.Normal.{numbering, lasting, firsts, clause_variables}
-use Rattle.fo_terms.specs.Gathered.{lent}
+use Rattle.fo_terms.specs.inner.Gathered.{lent}
 use Rattle.fo_terms.proofs.clause.Clause.normal.Goals as goal
 
 pub returns : goal.returns

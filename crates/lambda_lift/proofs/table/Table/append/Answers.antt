@@ -1,7 +1,7 @@
 use Rattle.std.proofs.Common.{◌∙◌, sym, subst, ap, map, length}
 use Rattle.lambda_lift.specs.Keys.{key}
 use Rattle.lambda_lift.specs.Tables.{closed_terms}
-use Rattle.lambda_lift.specs.Places.{IsNew}
+use Rattle.lambda_lift.specs.inner.Places.{IsNew}
 use Rattle.lambda_lift.proofs.Looking.{appended, next_place}
 use Rattle.lambda_lift.proofs.table.Table.append.Goals as goal
 use Rattle.lambda_lift.proofs.table.Table.append.Goals.{in-Ok, in-Err}

@@ -1,5 +1,5 @@
 use Rattle.std.proofs.Common.{◌∙◌, sym, subst, Some, None}
-use Rattle.lambda_lift.specs.Places.{Numbers}
+use Rattle.lambda_lift.specs.inner.Places.{Numbers}
 use Rattle.lambda_lift.proofs.Looking.{numbers}
 use Rattle.lambda_lift.proofs.table.Table.number_of.Goals as goal
 

@@ -1,4 +1,4 @@
-use hol_terms::{Term, copy};
+use crate::{Term, copy};
 use std::alloc::AllocError;
 use text_kit::NoMemory;
 

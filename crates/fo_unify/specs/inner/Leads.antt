@@ -8,7 +8,7 @@ use Rattle.fo_unify.specs.declared.triangle.Found.{Found}
 use Rattle.fo_unify.specs.declared.triangle.Found.TheVariants.{Done, Clash, Binds}
 use Rattle.fo_unify.specs.Unifier.{Equates, Unifies}
 use Rattle.fo_unify.specs.Unified.{put_sides, bound_by, Unified}
-use Rattle.fo_unify.specs.Triangle.{Ready, Solves, solution, extended, left_size}
+use Rattle.fo_unify.specs.inner.Triangle.{Ready, Solves, solution, extended, left_size}
 
 -- under the bindings, the fact P on a substitution is the fact Q
 abbrev pub Under : List Bind → ((ℕ → FoTerm) → Type 0) → ((ℕ → FoTerm) → Type 0) → Type 0

@@ -7,7 +7,7 @@ use Rattle.tstp_read.specs.declared.statements.Reader.{Reader}
 use Rattle.tstp_read.specs.declared.statements.ReadFault.{ReadFault}
 use Rattle.tstp_read.specs.declared.statements.ReadFault.TheVariants as fault
 use Rattle.tstp_read.specs.Tokens.{Tok, tokens_of}
-use Rattle.tstp_read.specs.Machine.{run, begun, step}
+use Rattle.tstp_read.specs.inner.Machine.{run, begun, step}
 use Rattle.tstp_read.specs.Used.{place_of}
 
 -- all tokens are taken, and these statements are read

@@ -8,7 +8,7 @@ use Rattle.std.specs.Global.{Vec}
 use Rattle.tstp_read.specs.declared.sources.Parent.{Parent}
 use Rattle.tstp_read.specs.declared.sources.Parent.TheVariants as parent
 use Rattle.tstp_read.specs.declared.statements.Entry.{Entry}
-use Rattle.tstp_read.specs.Machine.{joined}
+use Rattle.tstp_read.specs.inner.Machine.{joined}
 
 -- names with what the sources of their statements give
 abbrev pub Table : Type 0

@@ -11,7 +11,7 @@ use Rattle.proof_syntax.specs.Machine.{put, goes, run, State, StepStart, StepSpa
 use Rattle.proof_syntax.specs.Parts.{Fails}
 use Rattle.proof_reader.specs.declared.steps.Opening.{Opening}
 use Rattle.proof_reader.specs.declared.steps.Opening.TheVariants as opening
-use Rattle.proof_reader.specs.Rules.{IsMade}
+use Rattle.proof_reader.specs.inner.Rules.{IsMade}
 
 -- ---- arguments
 

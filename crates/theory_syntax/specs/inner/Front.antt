@@ -13,7 +13,7 @@ use Rattle.theory_syntax.specs.declared.front.ItemFront.TheVariants as item_fron
 use Rattle.theory_syntax.specs.declared.front.Heading.{Heading}
 use Rattle.theory_syntax.specs.declared.front.Heading.TheVariants as heading
 use Rattle.theory_syntax.specs.Machine as machine
-use Rattle.theory_syntax.specs.Parts.{NoOperand, NoAtom, NoType, NoItem}
+use Rattle.theory_syntax.specs.inner.Parts.{NoOperand, NoAtom, NoType, NoItem}
 
 abbrev pub IsOperand : List Tok → Operand → Type 0
 IsOperand ts (operand.Word x rest) = ts ≡ tok.Word x ∷ rest.now

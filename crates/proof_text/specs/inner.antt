@@ -1,0 +1,3 @@
+pub mod Vocabularies
+pub mod Fitting
+pub mod Arguments
