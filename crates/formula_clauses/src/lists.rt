@@ -3,9 +3,8 @@ ghost use Rattle.formula_clauses.specs.Choices.{put_in as put_in_all};
 ghost use Rattle.formula_clauses.specs.Walks.{truth as truth_of, literal as literal_of, joined, appended};
 ghost use Rattle.formula_clauses.specs.inner.Scopes.{scope_terms};
 
-use crate::literal::TypedLiteral;
 use crate::scope::{Scope, put_in};
-use hol_terms::Term;
+use hol_terms::{Term, TypedLiteral};
 use std::alloc::Global;
 use text_kit::{NoMemory, Rows};
 
