@@ -1,4 +1,0 @@
-mod Places
-mod Clauses
-mod Derivations
-mod Leaves

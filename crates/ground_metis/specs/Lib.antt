@@ -1,4 +1,0 @@
-pub mod Ground
-pub mod Formulas
-pub mod Derived
-pub mod inner
