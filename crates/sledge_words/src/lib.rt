@@ -15,5 +15,6 @@ mod tests;
 pub use command::Command;
 pub use fault::WordsFault;
 pub use line::Line;
+pub use numbers::number_within;
 pub use option::Flag;
 pub use reader::read_words;

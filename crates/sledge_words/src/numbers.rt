@@ -21,8 +21,8 @@ fn number(word: &str) -> Option<u32>
     }
 }
 
-/// The number that a word writes, where it is within its bounds.
-pub(crate) fn number_within(word: &str, low: u32, high: u32) -> Option<u32>
+/// The number that a word writes in digits, without a sign and without a leading zero, where it is within its bounds.
+pub fn number_within(word: &str, low: u32, high: u32) -> Option<u32>
     ensures { MatchOption result ((n : ℕ) → IsNumber low high word.now n → ⊥) (IsNumber low high word.now) }
 {
     match number(word) {
