@@ -1,8 +1,10 @@
-ghost use Rattle.std.specs.Prelude.{◌≡◌};
+ghost use Rattle.std.specs.Prelude.{◌≡◌, ◌+◌, ◌<◌, length, slice_get, Some};
+ghost use Rattle.fo_terms.specs.declared.term.FoTerm.{FoTerm};
+ghost use Rattle.fo_terms.specs.Weight.{size_of, size_of_all, capped};
 ghost use Rattle.fo_order.specs.KnuthBendix.{RankOf, RankOfFirst, OrderOf};
 
 use crate::counting::covered;
-use fo_terms::FoTerm;
+use fo_terms::{FoTerm, weight_all};
 
 /// How one term stands to another.
 #[derive(Clone, Copy, Debug, Drop, PartialEq, Eq)]
@@ -17,12 +19,27 @@ pub enum Order {
     Unknown,
 }
 
+/// The weight of the term at the place, from that of a term with these arguments.
+///
+/// The others are weighed in its place, so that a descent weighs each subterm once.
+fn weight_at(terms: &[FoTerm], i: usize, whole: u64) -> u64
+    requires place { i < length terms.now }
+    requires whole { whole ≡ capped (1 + size_of_all terms.now) }
+    ensures { (t : FoTerm) → slice_get terms.now i ≡ Some t → result ≡ capped (size_of t) }
+{
+    if whole == u64::MAX {
+        return terms[i].weight();
+    }
+    whole - 1 - weight_all(&terms[..i]) - weight_all(&terms[i + 1..])
+}
+
+/// Compares terms of these weights, before variables are counted.
 #[cycle(ranking)]
-fn rank(s: &FoTerm, t: &FoTerm) -> Order
+fn rank(s: &FoTerm, left: u64, t: &FoTerm, right: u64) -> Order
+    requires left { left ≡ capped (size_of s.now) }
+    requires right { right ≡ capped (size_of t.now) }
     ensures { RankOf s.now t.now result }
 {
-    let left = s.weight();
-    let right = t.weight();
     if left > right {
         return Order::Greater;
     }
@@ -37,7 +54,7 @@ fn rank(s: &FoTerm, t: &FoTerm) -> Order
             if *f < *g {
                 return Order::Less;
             }
-            rank_first(xs.as_slice(), ys.as_slice())
+            rank_first(xs.as_slice(), left, ys.as_slice(), right)
         }
         (FoTerm::Var(x), FoTerm::Var(y)) => {
             if *x == *y {
@@ -51,7 +68,9 @@ fn rank(s: &FoTerm, t: &FoTerm) -> Order
 }
 
 #[cycle(ranking)]
-fn rank_first(xs: &[FoTerm], ys: &[FoTerm]) -> Order
+fn rank_first(xs: &[FoTerm], left: u64, ys: &[FoTerm], right: u64) -> Order
+    requires left { left ≡ capped (1 + size_of_all xs.now) }
+    requires right { right ≡ capped (1 + size_of_all ys.now) }
     ensures { RankOfFirst xs.now ys.now result }
 {
     for i in 0..xs.len() {
@@ -61,7 +80,9 @@ fn rank_first(xs: &[FoTerm], ys: &[FoTerm]) -> Order
         let x = &xs[i];
         let y = &ys[i];
         if !x.same(y) {
-            return confirmed(rank(x, y), x, y);
+            let heavy = weight_at(&*xs, i, left);
+            let light = weight_at(&*ys, i, right);
+            return confirmed(rank(x, heavy, y, light), x, y);
         }
     }
     if xs.len() < ys.len() {
@@ -100,5 +121,5 @@ fn confirmed(order: Order, s: &FoTerm, t: &FoTerm) -> Order
 pub fn kbo(s: &FoTerm, t: &FoTerm) -> Order
     ensures { OrderOf s.now t.now result }
 {
-    confirmed(rank(s, t), s, t)
+    confirmed(rank(s, s.weight(), t, t.weight()), s, t)
 }
