@@ -1,6 +1,6 @@
 -- What a turn makes of the facts, by what the replay answered.
 use Rattle.std.proofs.Common.{◌≡◌, ℕ, ◌+◌, ◌-◌, ◌*◌, ◌/◌, ◌<◌, ◌≤◌, Bool, true, false, List, [], ◌∷◌, length, refl, sym, ap, ◌∙◌, subst, arith, zero, suc, inl, inr}
-use Rattle.std.specs.Prelude.{Contains, MatchBool, slice_index, if◌then◌else◌}
+use Rattle.std.specs.Prelude.{◌↔◌, Contains, slice_index, if◌then◌else◌}
 use Rattle.std.proofs.lemmas.Bool.{false≢true, eqb-true}
 use Rattle.std.proofs.lemmas.Bool.Decides.{eqb_tells}
 use Rattle.std.proofs.lemmas.List.{get_or_default}
@@ -89,7 +89,7 @@ none-in : (x : ℕ) → Contains [] x → ⊥
 none-in x (k, within, same) = omega arith
 
 -- what wasn't found without a fact makes the fact needed
-pub kept-sound : (finds : List ℕ → Bool) (kept : List ℕ) (stage : Stage) → IsStageOf (length kept) stage → is_over (length kept) stage ≡ false → finds (shorter_of kept stage) ≡ false → IsSound finds (progress_of kept stage) → IsSound finds (progress_of kept (stage_kept (length kept) stage))
+pub kept-sound : (finds : List ℕ → Type 0) (kept : List ℕ) (stage : Stage) → IsStageOf (length kept) stage → is_over (length kept) stage ≡ false → (finds (shorter_of kept stage) → ⊥) → IsSound finds (progress_of kept stage) → IsSound finds (progress_of kept (stage_kept (length kept) stage))
 kept-sound finds kept (Blocks parts next) stage more missed sound = record {
   found = sound.found;
   needed = λ fact h. (let P : List ℕ → Type 0 = λ l. Contains l fact in absurd (none-in fact (subst P (blocks-need (length kept) parts (next + 1) kept) h)));
@@ -101,27 +101,25 @@ kept-sound finds kept (Facts from tried) stage more missed sound = record {
       let P : List ℕ → Type 0 = λ l. Contains l fact in
       elim (Contains-append_cases (ring_part kept from tried) (x ∷ []) fact (subst P (ring-more kept from tried stage.0 (not-all (length kept) from tried stage more)) h)) [
         | inl p ↦ sound.needed fact p
-        | inr p ↦ sym (ap (λ y. finds (without y kept)) (only x fact p)) ∙ missed
+        | inr p ↦ (let N : ℕ → Type 0 = λ y. finds (without y kept) → ⊥ in subst N (only x fact p) missed)
       ]);
 }
 
 -- one replay of a shorter list
-pub found-tries : (finds : List ℕ → Bool) (kept shorter : List ℕ) (stage : Stage) → IsStageOf (length kept) stage → is_over (length kept) stage ≡ false → shorter ≡ shorter_of kept stage → finds shorter ≡ true → Tries finds (progress_of kept stage) (progress_of shorter (stage_dropped (length kept) (length shorter) stage))
+pub found-tries : (finds : List ℕ → Type 0) (kept shorter : List ℕ) (stage : Stage) → IsStageOf (length kept) stage → is_over (length kept) stage ≡ false → shorter ≡ shorter_of kept stage → finds shorter → Tries finds (progress_of kept stage) (progress_of shorter (stage_dropped (length kept) (length shorter) stage))
 found-tries finds kept shorter stage fits more is found = record {
   tried = shorter;
   sublist = (let P : List ℕ → Type 0 = λ l. IsSublist l kept in subst P (sym is) (tried-sublist kept stage fits));
   shorter = (let Q : List ℕ → Type 0 = λ l. length l < length kept in subst Q (sym is) (tried-shorter kept stage fits more));
-  outcome = (let R : Bool → Type 0 = λ b. MatchBool b (Drops (progress_of kept stage) (progress_of shorter (stage_dropped (length kept) (length shorter) stage)) shorter) (Keeps (progress_of kept stage) (progress_of shorter (stage_dropped (length kept) (length shorter) stage)) shorter) in
-      subst R (sym found) (refl, dropped-need (length kept) (length shorter) stage shorter));
+  outcome = inl (found, (refl, dropped-need (length kept) (length shorter) stage shorter));
 }
 
-pub missed-tries : (finds : List ℕ → Bool) (kept : List ℕ) (stage : Stage) → IsStageOf (length kept) stage → is_over (length kept) stage ≡ false → finds (shorter_of kept stage) ≡ false → Tries finds (progress_of kept stage) (progress_of kept (stage_kept (length kept) stage))
+pub missed-tries : (finds : List ℕ → Type 0) (kept : List ℕ) (stage : Stage) → IsStageOf (length kept) stage → is_over (length kept) stage ≡ false → (finds (shorter_of kept stage) → ⊥) → Tries finds (progress_of kept stage) (progress_of kept (stage_kept (length kept) stage))
 missed-tries finds kept stage fits more missed = record {
   tried = shorter_of kept stage;
   sublist = tried-sublist kept stage fits;
   shorter = tried-shorter kept stage fits more;
-  outcome = (let R : Bool → Type 0 = λ b. MatchBool b (Drops (progress_of kept stage) (progress_of kept (stage_kept (length kept) stage)) (shorter_of kept stage)) (Keeps (progress_of kept stage) (progress_of kept (stage_kept (length kept) stage)) (shorter_of kept stage)) in
-      subst R (sym missed) (kept-keeps kept stage fits more));
+  outcome = inr (missed, kept-keeps kept stage fits more);
 }
 
 -- the pass isn't over
@@ -131,7 +129,7 @@ under-way kept (Facts from tried) stage more =
     omega (arith, ring-length kept from tried, not-all (length kept) from tried stage more)
 
 -- where each fact was tried in vain none can be spared
-pub over-minimal : (finds : List ℕ → Bool) (kept : List ℕ) (stage : Stage) → IsStageOf (length kept) stage → is_over (length kept) stage ≡ true → IsSound finds (progress_of kept stage) → IsMinimal finds kept
+pub over-minimal : (finds : List ℕ → Type 0) (kept : List ℕ) (stage : Stage) → IsStageOf (length kept) stage → is_over (length kept) stage ≡ true → IsSound finds (progress_of kept stage) → IsMinimal finds kept
 over-minimal finds kept (Blocks parts next) stage over sound = absurd (false≢true over)
 over-minimal finds kept (Facts from tried) stage over sound = record {
   found = sound.found;
@@ -156,13 +154,13 @@ answer-done answer n m stage is same done = ap (λ x. is_over x stage) (sym same
     go false e = cc
 
 -- a turn whose shorter list was found
-pub record AfterFound (finds : List ℕ → Bool) (old : Progress) (shorter : List ℕ) (next : Stage) : Type 0 where
+pub record AfterFound (finds : List ℕ → Type 0) (old : Progress) (shorter : List ℕ) (next : Stage) : Type 0 where
   pub fits : IsStageOf (length shorter) next
   pub sublist : IsSublist shorter old.kept
-  pub tries : finds shorter ≡ true → Tries finds old (progress_of shorter next)
+  pub tries : finds shorter → Tries finds old (progress_of shorter next)
   pub fewer : left_of (length shorter) next < old.left
 
-pub after-found : (finds : List ℕ → Bool) (old : Progress) (kept shorter : List ℕ) (stage next : Stage) (n m : ℕ) → progress_of kept stage ≡ old → IsStageOf (length kept) stage → is_over (length kept) stage ≡ false → shorter ≡ shorter_of kept stage → n ≡ length kept → m ≡ length shorter → next ≡ stage_dropped n m stage → AfterFound finds old shorter next
+pub after-found : (finds : List ℕ → Type 0) (old : Progress) (kept shorter : List ℕ) (stage next : Stage) (n m : ℕ) → progress_of kept stage ≡ old → IsStageOf (length kept) stage → is_over (length kept) stage ≡ false → shorter ≡ shorter_of kept stage → n ≡ length kept → m ≡ length shorter → next ≡ stage_dropped n m stage → AfterFound finds old shorter next
 after-found finds old kept shorter stage next n m view fits more is len left step =
     let goes : stage_dropped (length kept) (length shorter) stage ≡ next = ap (λ x. stage_dropped x (length shorter) stage) (sym len) ∙ ap (λ x. stage_dropped n x stage) (sym left) ∙ sym step in
     let O : Progress → Type 0 = λ x. AfterFound finds x shorter next in
@@ -176,21 +174,21 @@ after-found finds old kept shorter stage next n m view fits more is len left ste
     }))
 
 -- a turn whose shorter list wasn't found
-pub record AfterMissed (finds : List ℕ → Bool) (old : Progress) (kept : List ℕ) (next : Stage) : Type 0 where
+pub record AfterMissed (finds : List ℕ → Type 0) (old : Progress) (kept : List ℕ) (next : Stage) : Type 0 where
   pub fits : IsStageOf (length kept) next
   pub sound : IsSound finds (progress_of kept next)
   pub sublist : IsSublist kept old.kept
   pub tries : Tries finds old (progress_of kept next)
   pub fewer : left_of (length kept) next < old.left
 
-pub after-missed : (finds : List ℕ → Bool) (old : Progress) (kept shorter : List ℕ) (stage next : Stage) (n : ℕ) → progress_of kept stage ≡ old → IsStageOf (length kept) stage → is_over (length kept) stage ≡ false → shorter ≡ shorter_of kept stage → finds shorter ≡ false → IsSound finds old → n ≡ length kept → next ≡ stage_kept n stage → AfterMissed finds old kept next
+pub after-missed : (finds : List ℕ → Type 0) (old : Progress) (kept shorter : List ℕ) (stage next : Stage) (n : ℕ) → progress_of kept stage ≡ old → IsStageOf (length kept) stage → is_over (length kept) stage ≡ false → shorter ≡ shorter_of kept stage → (finds shorter → ⊥) → IsSound finds old → n ≡ length kept → next ≡ stage_kept n stage → AfterMissed finds old kept next
 after-missed finds old kept shorter stage next n view fits more is missed sound len step =
     let goes : stage_kept (length kept) stage ≡ next = ap (λ x. stage_kept x stage) (sym len) ∙ sym step in
     let O : Progress → Type 0 = λ x. AfterMissed finds x kept next in
     let N : Stage → Type 0 = λ x. AfterMissed finds (progress_of kept stage) kept x in
     let S : Progress → Type 0 = λ x. IsSound finds x in
     let was : IsSound finds (progress_of kept stage) = subst S (sym view) sound in
-    let not : finds (shorter_of kept stage) ≡ false = ap finds (sym is) ∙ missed in
+    let not : finds (shorter_of kept stage) → ⊥ = (let M : List ℕ → Type 0 = λ x. finds x → ⊥ in subst M is missed) in
     subst O view (subst N goes (record {
       fits = kept-fits (length kept) stage fits more;
       sound = kept-sound finds kept stage fits more not was;
@@ -198,3 +196,10 @@ after-missed finds old kept shorter stage next n view fits more is missed sound 
       tries = missed-tries finds kept stage fits more not;
       fewer = kept-fewer (length kept) stage fits more;
     }))
+
+-- two relations that find the same lists keep the same lists sound, and minimal
+pub sound-alike : (finds others : List ℕ → Type 0) (now : Progress) → ((facts : List ℕ) → finds facts ↔ others facts) → IsSound others now → IsSound finds now
+sound-alike finds others now same sound = record {
+  found = (same now.kept).1 sound.found;
+  needed = λ fact h found. sound.needed fact h ((same (without fact now.kept)).0 found);
+}

@@ -1,4 +1,4 @@
-ghost use Rattle.std.specs.Prelude.{◌≡◌, ◌+◌, ◌*◌, ◌≤◌, ◌<◌, [], length, if◌then◌else◌};
+ghost use Rattle.std.specs.Prelude.{◌≡◌, ◌↔◌, ℕ, List, ◌+◌, ◌*◌, ◌≤◌, ◌<◌, [], length, if◌then◌else◌};
 ghost use Rattle.fact_minimise.specs.Stages.{is_over};
 
 use crate::replay::Replay;
@@ -57,7 +57,7 @@ impl Minimise {
     /// that may be spared it makes none.
     pub fn turn<R: Replay>(&mut self, replay: &mut R) -> MinTurn
         requires { IsSound (R.finds replay.old) self.old }
-        ensures relation { R.finds replay.new ≡ R.finds replay.old }
+        ensures relation { (facts : List ℕ) → (R.finds replay.new facts ↔ R.finds replay.old facts) }
         ensures sound { IsSound (R.finds replay.old) self.new }
         ensures sublist { IsSublist self.new.kept self.old.kept }
         ensures one_replay { result ≡ MinTurn.More → Tries (R.finds replay.old) self.old self.new }

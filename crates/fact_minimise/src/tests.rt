@@ -1,4 +1,4 @@
-ghost use Rattle.std.specs.Prelude.{◌≡◌, ◌==◌, ◌&&◌, ◌||◌, not, true, IfOk};
+ghost use Rattle.std.specs.Prelude.{◌≡◌, ◌==◌, ◌&&◌, ◌||◌, not, IsTrue, IfOk};
 ghost use Rattle.std.specs.List.{list_any};
 ghost use Rattle.fact_minimise.specs.Minimal.{IsMinimal};
 
@@ -18,7 +18,7 @@ fn has(facts: &Rows<u32>, fact: u32) -> bool
 struct NeedsThree;
 
 impl Replay for NeedsThree {
-    ghost finds = { λ _ facts. list_any (λ x. x == 3) facts };
+    ghost finds = { λ _ facts. IsTrue (list_any (λ x. x == 3) facts) };
 
     fn replay(&mut self, facts: &Rows<u32>) -> Result<bool, NoMemory> {
         Ok(has(facts, 3))
@@ -30,7 +30,7 @@ impl Replay for NeedsThree {
 struct NeedsTwoAndThree;
 
 impl Replay for NeedsTwoAndThree {
-    ghost finds = { λ _ facts. list_any (λ x. x == 2) facts && list_any (λ x. x == 3) facts && (list_any (λ x. x == 0) facts || not (list_any (λ x. x == 1) facts)) };
+    ghost finds = { λ _ facts. IsTrue (list_any (λ x. x == 2) facts && list_any (λ x. x == 3) facts && (list_any (λ x. x == 0) facts || not (list_any (λ x. x == 1) facts))) };
 
     fn replay(&mut self, facts: &Rows<u32>) -> Result<bool, NoMemory> {
         Ok(has(facts, 2) && has(facts, 3) && (has(facts, 0) || !has(facts, 1)))
@@ -39,7 +39,7 @@ impl Replay for NeedsTwoAndThree {
 
 // Minimises facts that the replay finds.
 fn minimised<R: Replay>(replay: &mut R, facts: Rows<u32>) -> Result<Minimise, NoMemory>
-    requires { R.finds replay.old facts ≡ true }
+    requires { R.finds replay.old facts }
     ensures { IfOk result (λ m. IsMinimal (R.finds replay.old) m.kept) }
 {
     let mut minimise = Minimise::begin(facts);

@@ -1,4 +1,5 @@
-use Rattle.std.proofs.Common.{sym, ap, ◌∙◌, subst}
+use Rattle.std.proofs.Common.{◌≡◌, Bool, true, false, sym, ap, ◌∙◌, subst}
+use Rattle.std.specs.Prelude.{MatchBool}
 use Rattle.fact_minimise.specs.Minimal.{IsMinimal}
 use Rattle.fact_minimise.specs.Progress.{Progress, IsSound}
 use Rattle.fact_minimise.specs.Stages.{is_over}
@@ -7,6 +8,15 @@ use Rattle.fact_minimise.proofs.Turns.{AfterFound, AfterMissed, after-found, aft
 use Rattle.fact_minimise.proofs.minimise.Minimise.turn.Given.{Over}
 use Rattle.fact_minimise.proofs.minimise.Minimise.turn.Goals as goal
 use Rattle.fact_minimise.proofs.minimise.Minimise.turn.Goals.{After-answer, After-drop-shorter-inside}
+
+-- what a replay told
+found_by : (b : Bool) (P Q : Type 0) → MatchBool b P Q → b ≡ true → P
+found_by true P Q h e = h
+found_by false P Q h e = cc
+
+missed_by : (b : Bool) (P Q : Type 0) → MatchBool b P Q → b ≡ false → Q
+missed_by true P Q h e = cc
+missed_by false P Q h e = h
 
 -- each fact was tried already
 pub returns-then-is_over-clause-sublist : goal.returns-then-is_over-clause-sublist
@@ -40,7 +50,7 @@ pub returns-in-Ok-true-clause-sublist : goal.returns-in-Ok-true-clause-sublist
 returns-in-Ok-true-clause-sublist g c = (found g c).sublist
 
 pub returns-in-Ok-true-clause-one_replay : goal.returns-in-Ok-true-clause-one_replay
-returns-in-Ok-true-clause-one_replay g c = λ _. (found g c).tries (sym c.in-Ok-true.ensures.answer ∙ c.in-Ok-true.field-0-test)
+returns-in-Ok-true-clause-one_replay g c = λ _. (found g c).tries (found_by _ _ _ c.in-Ok-true.ensures.answer c.in-Ok-true.field-0-test)
 
 pub returns-in-Ok-true-clause-unfinished : goal.returns-in-Ok-true-clause-unfinished
 returns-in-Ok-true-clause-unfinished g c =
@@ -54,7 +64,7 @@ missed : (g : Over) (c : After-drop-shorter-inside g) → AfterMissed (g.R.Repla
 missed g c =
     after-missed (g.R.Replay.finds c.args.replay.now) c.args.self.now c.self.inside.kept c.in-Ok.shorter c.self.inside.stage c.kept-self-inside.result c.len-in-Ok-false.result
     c.self.view_is c.self.invariant (ap (λ n. is_over n c.self.inside.stage) (sym c.len.ensures) ∙ sym c.is_over.ensures ∙ c.if-is_over.false)
-    c.in-Ok.ensures (sym c.in-Ok-false.ensures.answer ∙ c.in-Ok-false.field-0-test) c.requires c.len-in-Ok-false.ensures c.kept-self-inside.ensures
+    c.in-Ok.ensures (missed_by _ _ _ c.in-Ok-false.ensures.answer c.in-Ok-false.field-0-test) c.requires c.len-in-Ok-false.ensures c.kept-self-inside.ensures
 
 pub returns-in-Ok-false-clause-sound : goal.returns-in-Ok-false-clause-sound
 returns-in-Ok-false-clause-sound g c = (missed g c).sound
