@@ -1,3 +1,4 @@
 pub mod Landing
 pub mod Steps
 pub mod Failures
+pub mod Named

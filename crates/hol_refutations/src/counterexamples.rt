@@ -4,7 +4,7 @@ ghost use Rattle.hol_terms.specs.Formulas.{IsFormula};
 ghost use Rattle.hol_terms.specs.Substitution.{instantiated, occurs};
 ghost use Rattle.hol_terms.specs.declared.term.Term.{Free};
 ghost use Rattle.hyp_sets.specs.Sets.{only, absent};
-ghost use Rattle.kernel_rules.specs.Connectives.{falsum, neg, all, some, chosen, lambda, applied_to};
+ghost use Rattle.kernel_rules.specs.Connectives.{falsum, neg, equal, all, some, chosen, lambda, applied_to, right_of};
 ghost use Rattle.kernel_rules.specs.Rules.{seq};
 ghost use Rattle.hol_kernel.specs.Logs.{IsThm, thm};
 ghost use Rattle.hol_kernel.specs.Growth.{Extends, Gives, SameFacts};
@@ -54,7 +54,7 @@ fn denial(alloc: Global, n: u64, ty: &Ty, body: &Term) -> Result<Term, NoMemory>
 }
 
 /// `\x. ~b`
-fn failure(alloc: Global, ty: &Ty, body: &Term) -> Result<Term, NoMemory>
+pub(crate) fn failure(alloc: Global, ty: &Ty, body: &Term) -> Result<Term, NoMemory>
     ensures { IfOk result (λ t. t ≡ lambda ty.now (neg body.now)) }
 {
     abstraction(alloc, copy_ty(ty)?, negation(alloc, body)?)
@@ -184,4 +184,44 @@ pub fn not_all_chosen(log: &mut Log, ty: &Ty, body: &Term, th: ThmId) -> Result<
 {
     let part = picked(log, ty, body)?;
     cut(log, part, th)
+}
+
+/// From `{} : c = d` and `G : ~b[c]` to `G : ~b[d]` for the value `c` that is chosen for `\x. ~b`.
+#[tactic(none)]
+fn at_named(log: &mut Log, ty: &Ty, body: &Term, name: ThmId, th: ThmId) -> Result<ThmId, NoMemory>
+    requires whole { IsFormula log.old.env.sig (all ty.now (lambda ty.now body.now)) }
+    requires name { IsThm log.old name.0 }
+    requires names { thm log.old name.0 ≡ seq set.empty (equal ty.now (chosen ty.now (lambda ty.now (neg body.now))) (right_of (thm log.old name.0).concl)) }
+    requires th { IsThm log.old th.0 }
+    requires is { (thm log.old th.0).concl ≡ neg (instantiated body.now (chosen ty.now (lambda ty.now (neg body.now)))) }
+    ensures kept { Extends log.old log.new }
+    ensures facts { SameFacts log.old log.new }
+    ensures gives { IfOk result (λ r. Gives log.new r.0 (seq (thm log.old th.0).hyps (neg (instantiated body.now (right_of (thm log.old name.0).concl))))) }
+{
+    let property = failure(log.allocator(), ty, body)?;
+    log.subst_own(property, name, th)
+}
+
+/// From `{} : c = d` and `G : false` to `{~(!x. b)} + (G - ~b[d]) : false` for the value `c` that is chosen for `\x. ~b`. `body` is
+/// `b`, in which the bound variable is the index 0.
+#[tactic(none)]
+pub fn not_all_named(
+    log: &mut Log,
+    ty: &Ty,
+    body: &Term,
+    name: ThmId,
+    th: ThmId,
+) -> Result<ThmId, NoMemory>
+    requires whole { IsFormula log.old.env.sig (all ty.now (lambda ty.now body.now)) }
+    requires name { IsThm log.old name.0 }
+    requires names { thm log.old name.0 ≡ seq set.empty (equal ty.now (chosen ty.now (lambda ty.now (neg body.now))) (right_of (thm log.old name.0).concl)) }
+    requires th { IsThm log.old th.0 }
+    requires refuted { (thm log.old th.0).concl ≡ falsum }
+    ensures kept { Extends log.old log.new }
+    ensures facts { SameFacts log.old log.new }
+    ensures gives { IfOk result (λ r. Gives log.new r.0 (seq (set.union (only (neg (all ty.now (lambda ty.now body.now)))) (set.remove (thm log.old th.0).hyps (neg (instantiated body.now (right_of (thm log.old name.0).concl))))) falsum)) }
+{
+    let part = picked(log, ty, body)?;
+    let there = at_named(log, ty, body, name, part)?;
+    cut(log, there, th)
 }

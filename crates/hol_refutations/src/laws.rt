@@ -3,8 +3,8 @@ ghost use Rattle.hol_refutations.specs.Laws.{PartLands, PartsLand, BothLand, Eit
 use hol_terms::Term;
 use hyp_sets::Hyps;
 
-/// What `not_not`, `and_left`, `and_right`, `not_or_left`, `not_or_right`, `all_at`, `not_some_at`, `some_chosen`, `some_named`
-/// and `not_all_chosen` give are refutations of the whole.
+/// What `not_not`, `and_left`, `and_right`, `not_or_left`, `not_or_right`, `all_at`, `not_some_at`, `some_chosen`, `some_named`,
+/// `not_all_chosen` and `not_all_named` give are refutations of the whole.
 pub fn part_lands(part: &Term, whole: &Term, hyps: &Hyps)
     ensures { PartLands part.now whole.now hyps.now }
 {}

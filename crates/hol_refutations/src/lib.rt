@@ -16,7 +16,7 @@ mod quantifiers;
 mod tests;
 
 pub use choices::{some_chosen, some_named};
-pub use counterexamples::not_all_chosen;
+pub use counterexamples::{not_all_chosen, not_all_named};
 pub use equality::{equal_first, equal_second, not_equal};
 pub use laws::{both_land, denial_lands, either_lands, part_lands, parts_land};
 pub use propositional::{

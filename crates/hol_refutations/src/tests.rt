@@ -1,20 +1,23 @@
 ghost use Rattle.std.specs.Prelude.{◌≡◌, IfOk};
+ghost use Rattle.std.specs.FinSet as set;
 ghost use Rattle.hol_terms.specs.Formulas.{IsFormula, is_formula as formula_test};
 ghost use Rattle.hol_terms.specs.Types.{bool_ty};
-ghost use Rattle.kernel_rules.specs.Connectives.{falsum, equal, all, some as exists, lambda};
+ghost use Rattle.kernel_rules.specs.Connectives.{falsum, neg, equal, all, some as exists, chosen, lambda};
+ghost use Rattle.kernel_rules.specs.Rules.{seq};
 ghost use Rattle.hol_kernel.specs.Logs.{IsThm, thm};
-ghost use Rattle.hol_kernel.specs.Growth.{Extends};
+ghost use Rattle.hol_kernel.specs.Growth.{Extends, Gives};
 ghost use Rattle.hol_kernel.specs.Conditions.{IsGiven};
 
+use crate::counterexamples::failure;
 use crate::equality::bool_type;
 use crate::{
     all_at, and_left, and_right, atom, equal_first, equal_second, falsity, implies, not_all_chosen,
-    not_and, not_equal, not_implies, not_not, not_or_left, not_or_right, not_true, or_both,
-    some_chosen,
+    not_all_named, not_and, not_equal, not_implies, not_not, not_or_left, not_or_right, not_true,
+    or_both, some_chosen, some_named,
 };
 use hol_kernel::{Log, ThmId};
 use hol_terms::{Env, Konst, Sig, Term, Ty, TypeFault, copy, copy_ty, is_formula, put_together};
-use kernel_rules::{equation, existential, is_falsum, lambda as abstraction, universal};
+use kernel_rules::{apply, equation, existential, is_falsum, lambda as abstraction, universal};
 use std::alloc::Global;
 use std::test::Fail;
 use text_kit::{NoMemory, Rows};
@@ -188,6 +191,63 @@ fn quantifiers_are_told(
     Ok(refutes(log, every, 2) & refutes(log, held, 2) & refutes(log, failed, 2))
 }
 
+/// The value that is chosen for `f`.
+fn choice(alloc: Global, ty: &Ty, f: &Term) -> Result<Term, NoMemory>
+    ensures { IfOk result (λ t. t ≡ chosen ty.now f.now) }
+{
+    apply(alloc, Term::Con(Konst::Eps(copy_ty(ty)?)), copy(f)?)
+}
+
+/// `{} : c = c` for the value `c` that is chosen for `f`: its own name.
+#[tactic(none)]
+fn own_name(log: &mut Log, ty: &Ty, f: &Term) -> Result<ThmId, NoMemory>
+    requires { IsFormula log.old.env.sig (exists ty.now f.now) }
+    ensures kept { Extends log.old log.new }
+    ensures gives { IfOk result (λ r. Gives log.new r.0 (seq set.empty (equal ty.now (chosen ty.now f.now) (chosen ty.now f.now)))) }
+{
+    let value = choice(log.allocator(), ty, f)?;
+    let name = log.refl(&value);
+    drop(value);
+    name
+}
+
+/// The same for the value that is chosen for `\x. ~b`.
+#[tactic(none)]
+fn own_name_failing(log: &mut Log, ty: &Ty, body: &Term) -> Result<ThmId, NoMemory>
+    requires { IsFormula log.old.env.sig (all ty.now (lambda ty.now body.now)) }
+    ensures kept { Extends log.old log.new }
+    ensures gives { IfOk result (λ r. Gives log.new r.0 (seq set.empty (equal ty.now (chosen ty.now (lambda ty.now (neg body.now))) (chosen ty.now (lambda ty.now (neg body.now)))))) }
+{
+    let property = failure(log.allocator(), ty, body)?;
+    let name = own_name(log, ty, &property);
+    drop(property);
+    name
+}
+
+#[tactic(none)]
+fn holding_is_told(log: &mut Log, ty: &Ty, f: &Term, th: ThmId) -> Result<bool, NoMemory>
+    requires some { IsFormula log.old.env.sig (exists ty.now f.now) }
+    requires th { IsThm log.old th.0 }
+    requires th_false { (thm log.old th.0).concl ≡ falsum }
+    ensures kept { Extends log.old log.new }
+{
+    let name = own_name(log, ty, f)?;
+    let held = some_named(log, ty, f, name, th)?;
+    Ok(refutes(log, held, 2))
+}
+
+#[tactic(none)]
+fn failing_is_told(log: &mut Log, ty: &Ty, body: &Term, th: ThmId) -> Result<bool, NoMemory>
+    requires each { IsFormula log.old.env.sig (all ty.now (lambda ty.now body.now)) }
+    requires th { IsThm log.old th.0 }
+    requires th_false { (thm log.old th.0).concl ≡ falsum }
+    ensures kept { Extends log.old log.new }
+{
+    let name = own_name_failing(log, ty, body)?;
+    let failed = not_all_named(log, ty, body, name, th)?;
+    Ok(refutes(log, failed, 2))
+}
+
 /// The left theorem is `{~a, a} : false`, the right one `{~b, b} : false`.
 #[tactic(none)]
 fn wholes_are_told(
@@ -290,7 +350,10 @@ fn refuted_quantifiers(
     requires ty { ty.now ≡ bool_ty }
 {
     let clash = atom(log, body)?;
-    quantifiers_are_told(log, ty, f, body, u, clash)
+    let values = quantifiers_are_told(log, ty, f, body, u, clash)?;
+    let holding = holding_is_told(log, ty, f, clash)?;
+    let failing = failing_is_told(log, ty, body, clash)?;
+    Ok(values & holding & failing)
 }
 
 /// The same where they are formulas over the signature.
