@@ -1,3 +1,4 @@
+pub mod Agreeing
 pub mod Closing
 pub mod Growing
 pub mod MatchLaws

@@ -3,9 +3,7 @@ use Rattle.std.proofs.Common.{◌≡◌, ◌≢◌, ℕ, zero, suc, ◌+◌, ◌
 use Rattle.std.proofs.lemmas.List.{map-append, append_assoc, length-map}
 use Rattle.std.proofs.lemmas.List.Sums.{sum_by-append}
 use Rattle.std.specs.List.{zip}
-use Rattle.fo_terms.specs.declared.term.FoTerm.{FoTerm, out-FoTerm}
-use Rattle.fo_terms.specs.declared.term.FoTerm.TheOpen.{FoTerm-F}
-use Rattle.fo_terms.specs.declared.term.FoTerm.TheVariants.{outs-Fun}
+use Rattle.fo_terms.specs.declared.term.FoTerm.{FoTerm}
 use Rattle.fo_terms.specs.Weight.{size_of}
 use Rattle.fo_unify.specs.declared.subst.Bind.{Bind}
 use Rattle.fo_unify.specs.declared.triangle.Equation.{Equation}

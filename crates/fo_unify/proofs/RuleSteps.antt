@@ -1,14 +1,14 @@
 -- Steps of the code as rules on equations with the bindings put through them.
-use Rattle.std.proofs.Common.{◌≡◌, ℕ, false, List, [], ◌∷◌, ◌++◌, map, length, refl, sym, ap, subst, ◌∙◌, arith}
-use Rattle.std.proofs.lemmas.List.{map-append, append-nil, append_assoc, length-map}
+use Rattle.std.proofs.Common.{◌≡◌, ℕ, false, List, [], ◌∷◌, ◌++◌, map, length, refl, sym, ap, subst, ◌∙◌}
+use Rattle.std.proofs.lemmas.List.{map-append, append-nil, length-map}
 use Rattle.std.specs.List.{zip}
 use Rattle.fo_terms.specs.declared.term.FoTerm.{FoTerm}
 use Rattle.fo_terms.specs.Substitution.{var, fun, put, occurs_in}
 use Rattle.fo_terms.proofs.Substitution.{put_put, put_itself}
 use Rattle.fo_unify.specs.declared.subst.Bind.{Bind}
 use Rattle.fo_unify.specs.Lookup.{term_of}
-use Rattle.fo_unify.specs.Unified.{put_sides, bound_by, Unified, done, same, turned, parts, bound}
-use Rattle.fo_unify.specs.inner.Triangle.{one, extended, solved_from, solution}
+use Rattle.fo_unify.specs.Unified.{put_sides, bound_by, Unified, same, turned, parts, bound}
+use Rattle.fo_unify.specs.inner.Triangle.{one, extended, solved_from}
 use Rattle.fo_unify.specs.inner.Leads.{Carries, Binding}
 use Rattle.fo_unify.proofs.Closing.{term_of_one}
 

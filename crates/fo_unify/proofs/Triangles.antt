@@ -1,7 +1,6 @@
 -- Laws of bindings in the order in which they were made.
 use Rattle.std.proofs.Common.{◌≡◌, ◌≢◌, ℕ, Bool, true, false, ◌==◌, if◌then◌else◌, IsTrue, List, [], ◌∷◌, ◌++◌, refl, sym, ap, subst, ◌∙◌}
-use Rattle.fo_terms.specs.declared.term.FoTerm.{FoTerm, out-FoTerm}
-use Rattle.fo_terms.specs.declared.term.FoTerm.TheOpen.{FoTerm-F}
+use Rattle.fo_terms.specs.declared.term.FoTerm.{FoTerm}
 use Rattle.fo_terms.specs.declared.term.FoTerm.TheVariants.{outs-Var, outs-Fun}
 use Rattle.fo_unify.specs.declared.subst.Bind.{Bind}
 use Rattle.fo_terms.specs.Substitution.{var, fun, put, occurs_in}

@@ -1,11 +1,15 @@
-ghost use Rattle.std.specs.Prelude.{◌≡◌, ◌++◌, IfOk, OnOk, map, length};
+ghost use Rattle.std.specs.Prelude.{◌≡◌, ◌↔◌, ◌++◌, ℕ, false, IsTrue, IfOk, OnOk, List, map, length, All, Contains};
+ghost use Rattle.fo_unify.specs.declared.subst.Bind.{Bind};
 ghost use Rattle.std.specs.List.{zip};
-ghost use Rattle.fo_terms.specs.Substitution.{put, occurs_in, occurs_in_any};
-ghost use Rattle.fo_unify.specs.inner.Triangle.{walked, stepped, Good, solution};
+ghost use Rattle.fo_terms.specs.declared.term.FoTerm.{FoTerm};
+ghost use Rattle.fo_terms.specs.Substitution.{var, put, occurs_in, occurs_in_any};
+ghost use Rattle.fo_unify.specs.Unifier.{Equates, Unifies};
+ghost use Rattle.fo_unify.specs.inner.Triangle.{walked, stepped, Good, solution, Lacks};
 ghost use Rattle.fo_unify.specs.Shown.{as_bind, as_binds, shown};
 ghost use Rattle.fo_unify.specs.inner.Leads.{BoundTo, Goes, Leads};
 
 use fo_terms::FoTerm;
+use std::alloc::Global;
 use text_kit::{NoMemory, Rows};
 
 /// A binding whose term is lent.
@@ -55,28 +59,177 @@ pub fn walk<'a>(binds: &[Held<'a>], t: &'a FoTerm) -> &'a FoTerm
     at
 }
 
-#[cycle(reaching)]
-pub fn reaches(binds: &[Held], x: u64, t: &FoTerm) -> bool
-    requires { Good (as_binds binds.now) }
-    ensures { result ≡ occurs_in x (put (solution (as_binds binds.now)) t.now) }
+/// Whether the number is there.
+fn is_noted(seen: &[u64], x: u64) -> bool
+    ensures { IsTrue result → Contains seen.now x }
 {
-    match walk(&*binds, &*t) {
-        FoTerm::Var(y) => x == *y,
-        FoTerm::Fun(_, args) => reaches_any(&*binds, x, args.as_slice()),
-    }
-}
-
-#[cycle(reaching)]
-pub fn reaches_any(binds: &[Held], x: u64, ts: &[FoTerm]) -> bool
-    requires { Good (as_binds binds.now) }
-    ensures { result ≡ occurs_in_any x (map (put (solution (as_binds binds.now))) ts.now) }
-{
-    for t in ts {
-        if reaches(&*binds, x, t) {
+    for y in seen {
+        if *y == x {
             return true;
         }
     }
     false
+}
+
+/// Whether the term is a variable that is there.
+fn is_seen(seen: &[u64], t: &FoTerm) -> bool
+    ensures { IsTrue result → (x : ℕ) × (t.now ≡ var x) × Contains seen.now x }
+{
+    match t {
+        FoTerm::Var(x) => is_noted(seen, *x),
+        FoTerm::Fun(_, _) => false,
+    }
+}
+
+/// Notes the term where it is a variable.
+fn see(seen: &mut Rows<u64>, t: &FoTerm) -> Result<(), NoMemory>
+    ensures { OnOk result ((bs : List Bind) (x : ℕ) → occurs_in x (put (solution bs) t.now) ≡ false → All (Lacks bs x) seen.old → All (Lacks bs x) seen.new) }
+{
+    match t {
+        FoTerm::Var(x) => {
+            seen.push(*x)?;
+            Ok(())
+        }
+        FoTerm::Fun(_, _) => Ok(()),
+    }
+}
+
+/// Whether the variable stands in the term with the bindings put through it.
+///
+/// Each bound variable is looked through once: those whose terms don't hold it are noted.
+#[cycle(reaching)]
+pub fn reaches(binds: &[Held], x: u64, t: &FoTerm, seen: &mut Rows<u64>) -> Result<bool, NoMemory>
+    requires good { Good (as_binds binds.now) }
+    requires seen { All (Lacks (as_binds binds.now) x) seen.old }
+    ensures reaches { IfOk result (λ r. r ≡ occurs_in x (put (solution (as_binds binds.now)) t.now)) }
+    ensures seen { IfOk result (λ r. All (Lacks (as_binds binds.now) x) seen.new) }
+{
+    if is_seen(seen.as_slice(), &*t) {
+        return Ok(false);
+    }
+    match walk(&*binds, &*t) {
+        FoTerm::Var(y) => Ok(x == *y),
+        FoTerm::Fun(_, args) => {
+            if reaches_any(&*binds, x, args.as_slice(), seen)? {
+                return Ok(true);
+            }
+            see(seen, t)?;
+            Ok(false)
+        }
+    }
+}
+
+#[cycle(reaching)]
+pub fn reaches_any(
+    binds: &[Held],
+    x: u64,
+    ts: &[FoTerm],
+    seen: &mut Rows<u64>,
+) -> Result<bool, NoMemory>
+    requires good { Good (as_binds binds.now) }
+    requires seen { All (Lacks (as_binds binds.now) x) seen.old }
+    ensures reaches { IfOk result (λ r. r ≡ occurs_in_any x (map (put (solution (as_binds binds.now))) ts.now)) }
+    ensures seen { IfOk result (λ r. All (Lacks (as_binds binds.now) x) seen.new) }
+{
+    for t in ts {
+        if reaches(&*binds, x, t, seen)? {
+            return Ok(true);
+        }
+    }
+    Ok(false)
+}
+
+/// Whether a pair of terms is there. Only pairs with a variable are.
+fn is_known(known: &[Equation], s: &FoTerm, t: &FoTerm) -> bool
+    ensures { IsTrue result → (v : ℕ → FoTerm) → Unifies v (shown known.now) → Equates v s.now t.now }
+{
+    if !is_short(s, t) {
+        return false;
+    }
+    for e in known {
+        if e.left.same(s) && e.right.same(t) {
+            return true;
+        }
+    }
+    false
+}
+
+/// Whether one of the terms is a variable, which may stand for a large term.
+fn is_short(s: &FoTerm, t: &FoTerm) -> bool {
+    match (s, t) {
+        (FoTerm::Fun(_, _), FoTerm::Fun(_, _)) => false,
+        (FoTerm::Var(_), FoTerm::Fun(_, _)) => true,
+        (FoTerm::Fun(_, _), FoTerm::Var(_)) => true,
+        (FoTerm::Var(_), FoTerm::Var(_)) => true,
+    }
+}
+
+/// Notes a pair of terms that the bindings make the same, where one of them is a variable.
+fn know<'a>(known: &mut Rows<Equation<'a>>, s: &'a FoTerm, t: &'a FoTerm) -> Result<(), NoMemory>
+    ensures { OnOk result ((v : ℕ → FoTerm) → Equates v s.now t.now → Unifies v (shown known.old) → Unifies v (shown known.new)) }
+{
+    if is_short(s, t) {
+        known.push(Equation { left: s, right: t })?;
+    }
+    Ok(())
+}
+
+/// Whether two terms are the same with the bindings put through them.
+///
+/// Each pair of a bound variable and another term is looked through once: those that are the same are noted.
+#[cycle(agreeing)]
+pub fn agree<'a>(
+    binds: &[Held<'a>],
+    s: &'a FoTerm,
+    t: &'a FoTerm,
+    known: &mut Rows<Equation<'a>>,
+) -> Result<bool, NoMemory>
+    requires good { Good (as_binds binds.now) }
+    requires known { Unifies (solution (as_binds binds.now)) (shown known.old) }
+    ensures same { IfOk result (λ r. IsTrue r ↔ Equates (solution (as_binds binds.now)) s.now t.now) }
+    ensures known { IfOk result (λ r. Unifies (solution (as_binds binds.now)) (shown known.new)) }
+{
+    if is_known(known.as_slice(), s, t) {
+        return Ok(true);
+    }
+    match (walk(&*binds, s), walk(&*binds, t)) {
+        (FoTerm::Var(x), FoTerm::Var(y)) => Ok(*x == *y),
+        (FoTerm::Var(_), FoTerm::Fun(_, _)) => Ok(false),
+        (FoTerm::Fun(_, _), FoTerm::Var(_)) => Ok(false),
+        (FoTerm::Fun(f, xs), FoTerm::Fun(g, ys)) => {
+            if *f != *g {
+                return Ok(false);
+            }
+            if !agree_all(&*binds, xs.as_slice(), ys.as_slice(), known)? {
+                return Ok(false);
+            }
+            know(known, s, t)?;
+            Ok(true)
+        }
+    }
+}
+
+#[cycle(agreeing)]
+pub fn agree_all<'a>(
+    binds: &[Held<'a>],
+    ss: &'a [FoTerm],
+    ts: &'a [FoTerm],
+    known: &mut Rows<Equation<'a>>,
+) -> Result<bool, NoMemory>
+    requires good { Good (as_binds binds.now) }
+    requires known { Unifies (solution (as_binds binds.now)) (shown known.old) }
+    ensures same { IfOk result (λ r. IsTrue r ↔ (map (put (solution (as_binds binds.now))) ss.now ≡ map (put (solution (as_binds binds.now))) ts.now)) }
+    ensures known { IfOk result (λ r. Unifies (solution (as_binds binds.now)) (shown known.new)) }
+{
+    if ss.len() != ts.len() {
+        return Ok(false);
+    }
+    for i in 0..ss.len() {
+        if !agree(&*binds, &ss[i], &ts[i], known)? {
+            return Ok(false);
+        }
+    }
+    Ok(true)
 }
 
 fn push_pairs<'a>(
@@ -97,15 +250,34 @@ fn push_pairs<'a>(
 }
 
 /// A root variable is to become equal to a root.
-fn bind<'a>(binds: &[Held], x: u64, t: &'a FoTerm) -> Found<'a>
+fn bind<'a>(alloc: Global, binds: &[Held], x: u64, t: &'a FoTerm) -> Result<Found<'a>, NoMemory>
     requires { Good (as_binds binds.now) }
-    ensures { BoundTo (as_binds binds.now) x t.now result }
+    ensures { IfOk result (λ r. BoundTo (as_binds binds.now) x t.now r) }
 {
-    if reaches(binds, x, t) {
-        Found::Clash
+    let mut seen = Rows::begin(alloc);
+    if reaches(binds, x, t, &mut seen)? {
+        Ok(Found::Clash)
     } else {
-        Found::Binds(x, t)
+        Ok(Found::Binds(x, t))
     }
+}
+
+/// Whether a bound variable is looked through here to find that nothing is left to do.
+fn is_settled<'a>(
+    alloc: Global,
+    binds: &[Held<'a>],
+    s: &'a FoTerm,
+    t: &'a FoTerm,
+) -> Result<bool, NoMemory>
+    requires { Good (as_binds binds.now) }
+    ensures { IfOk result (λ r. IsTrue r → Equates (solution (as_binds binds.now)) s.now t.now) }
+{
+    if !is_short(s, t) {
+        return Ok(false);
+    }
+    let mut known = Rows::begin(alloc);
+    let same = agree(binds, s, t, &mut known)?;
+    Ok(same)
 }
 
 /// Takes an equation apart.
@@ -118,22 +290,26 @@ pub fn reduce<'a>(
     requires { Good (as_binds binds.now) }
     ensures { IfOk result (λ r. Goes (as_binds binds.now) left.now right.now (shown work.old) (shown work.new) r) }
 {
+    let alloc = work.allocator();
     let s = walk(&*binds, left);
     let t = walk(&*binds, right);
     match (s, t) {
         (FoTerm::Var(x), FoTerm::Var(y)) => if *x == *y {
             Ok(Found::Done)
         } else {
-            Ok(bind(&*binds, *x, t))
+            Ok(bind(alloc, &*binds, *x, t)?)
         },
-        (FoTerm::Var(x), FoTerm::Fun(_, _)) => Ok(bind(&*binds, *x, t)),
-        (FoTerm::Fun(_, _), FoTerm::Var(y)) => Ok(bind(&*binds, *y, s)),
+        (FoTerm::Var(x), FoTerm::Fun(_, _)) => Ok(bind(alloc, &*binds, *x, t)?),
+        (FoTerm::Fun(_, _), FoTerm::Var(y)) => Ok(bind(alloc, &*binds, *y, s)?),
         (FoTerm::Fun(f, xs), FoTerm::Fun(g, ys)) => {
             if *f != *g {
                 return Ok(Found::Clash);
             }
             if xs.len() != ys.len() {
                 return Ok(Found::Clash);
+            }
+            if is_settled(alloc, &*binds, left, right)? {
+                return Ok(Found::Done);
             }
             push_pairs(work, xs.as_slice(), ys.as_slice())?;
             Ok(Found::Done)

@@ -66,3 +66,7 @@ resolved_bind u b = record { var = b.var; term = put u b.term }
 
 abbrev pub resolved : List Bind → List Bind
 resolved binds = map (resolved_bind (solution binds)) binds
+
+-- the variable x doesn't stand in the term that y stands for
+abbrev pub Lacks : List Bind → ℕ → ℕ → Type 0
+Lacks binds x y = occurs_in x (solution binds y) ≡ false

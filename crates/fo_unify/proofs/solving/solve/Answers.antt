@@ -1,4 +1,4 @@
-use Rattle.std.proofs.Common.{◌≡◌, [], ◌∙◌, sym, ap, subst, rules}
+use Rattle.std.proofs.Common.{◌≡◌, ◌∙◌, sym, ap, subst, rules}
 use Rattle.fo_unify.specs.declared.triangle.Found.TheVariants.{Done, Clash, Binds}
 use Rattle.fo_unify.specs.Unifier.{IsMostGeneral}
 use Rattle.fo_unify.specs.Unified.{Unified}

@@ -1,4 +1,4 @@
-use Rattle.std.proofs.Common.{◌≡◌, List, [], ◌∷◌, ◌++◌, ◌∙◌, ap, subst}
+use Rattle.std.proofs.Common.{◌≡◌, [], ◌∷◌, ◌++◌, ◌∙◌, ap, subst}
 use Rattle.fo_unify.specs.declared.triangle.Equation.{Equation}
 use Rattle.fo_unify.specs.Unifier.{UnifierOf}
 use Rattle.fo_unify.specs.Unified.{MadeByRules}
