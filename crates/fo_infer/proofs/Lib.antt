@@ -1,10 +1,13 @@
 pub mod Changes
 pub mod Factorings
 pub mod Listing
+pub mod Meetings
 pub mod Narrowing
 pub mod OneLists
 pub mod OrderKept
 pub mod Paramodulants
+pub mod Parting
 pub mod Resolvents
 pub mod Rising
+pub mod SymbolMarks
 pub mod Unifiers

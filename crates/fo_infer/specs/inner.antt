@@ -2,3 +2,5 @@ pub mod Adding
 pub mod Reading
 pub mod Places
 pub mod Covering
+pub mod Components
+pub mod Meeting

@@ -2,9 +2,12 @@
 #![tactic(auto)]
 
 mod adding;
+mod components;
 mod concluding;
+mod covering;
 mod laws;
 mod made;
+mod meeting;
 mod pairs;
 mod paramodulating;
 mod paths;
@@ -12,9 +15,11 @@ mod reading;
 mod refutation;
 mod renaming;
 mod resolving;
+mod seeking;
 mod single;
 mod source;
 mod subsuming;
+mod symbols;
 
 pub use concluding::push_rest;
 pub use laws::{alone_is_one_list, between_is_one_list};
@@ -26,6 +31,7 @@ pub use refutation::{Line, Origin, Refutation};
 pub use renaming::{above_literals, renamed};
 pub use single::alone;
 pub use subsuming::subsumes;
+pub use symbols::{may_subsume, symbols_of};
 
 #[cfg(test)]
 mod tests;

@@ -3,6 +3,7 @@ ghost use Rattle.fo_infer.specs.Inferences.{BetweenAt, Between, BetweenPlain};
 ghost use Rattle.fo_infer.specs.inner.Places.{position_of};
 
 use crate::Made;
+use crate::meeting::may_infer;
 use crate::paramodulating::paramodulate;
 use crate::renaming::renamed;
 use crate::resolving::resolve;
@@ -13,6 +14,9 @@ use text_kit::{NoMemory, Rows};
 fn between_at(alloc: Global, plain: bool, p: &Clause, q: &Clause) -> Result<Rows<Made>, NoMemory>
     ensures { IfOk result (λ made. BetweenAt (position_of plain) p.now q.now made) }
 {
+    if !may_infer(p, q) {
+        return Ok(Rows::begin(alloc));
+    }
     let apart = renamed(alloc, p, q)?;
     let mut out = Rows::begin(alloc);
     resolve(alloc, p, q, &apart, &mut out)?;

@@ -183,6 +183,23 @@ fn subsumes_by_one_literal_twice(alloc: Global) -> Result<bool, NoMemory> {
     Ok(true)
 }
 
+/// Nine literals that share no variables, and two that can't be sent together: each assignment of the nine would be tried in vain.
+fn subsumes_part_by_part(alloc: Global) -> Result<bool, NoMemory> {
+    let mut general = Rows::begin(alloc);
+    let mut special = Rows::begin(alloc);
+    for k in 0..9u64 {
+        general.push(holds(false, one(alloc, 1, FoTerm::Var(k))?))?;
+        special.push(holds(false, one(alloc, 1, constant(alloc, k))?))?;
+    }
+    general.push(holds(true, one(alloc, 2, FoTerm::Var(9))?))?;
+    general.push(holds(true, one(alloc, 3, FoTerm::Var(9))?))?;
+    special.push(holds(true, one(alloc, 2, constant(alloc, 1))?))?;
+    special.push(holds(true, one(alloc, 3, constant(alloc, 2))?))?;
+    let general = Clause { literals: general };
+    let special = Clause { literals: special };
+    Ok(!subsumes(alloc, &general, &special)?)
+}
+
 #[test]
 fn infers(rt: HostRuntime) -> Result<(), Fail> {
     let alloc = rt.alloc();
@@ -190,5 +207,6 @@ fn infers(rt: HostRuntime) -> Result<(), Fail> {
     assert!(rt; paramodulates_at_tags(alloc)?);
     assert!(rt; factors_and_reflects(alloc)?);
     assert!(rt; subsumes_by_one_literal_twice(alloc)?);
+    assert!(rt; subsumes_part_by_part(alloc)?);
     Ok(())
 }

@@ -1,12 +1,19 @@
-use Rattle.std.proofs.Common.{◌≡◌, ◌≤◌, drop, length, ap, subst, arith}
-use Rattle.fo_unify.specs.Shown.{as_binds}
-use Rattle.fo_infer.specs.inner.Covering.{Covers}
-use Rattle.fo_infer.proofs.Narrowing.{subsumes_is}
+use Rattle.std.proofs.Common.{◌≡◌, ◌≤◌, ◌↔◌, ◌∙◌, IsTrue, None, Some, length, sym, ap, subst, arith}
+use Rattle.fo_infer.specs.inner.Components.{literals, Sought_in, SameSends, Sendable}
+use Rattle.fo_infer.proofs.Parting.{subsumes_not, subsumes_when}
 use Rattle.fo_infer.proofs.subsuming.subsumes.Goals as goal
 
-pub returns : goal.returns
-returns c =
-    let binds = as_binds c.begin-binds.result in
+pub returns-in-None : goal.returns-in-None
+returns-in-None c =
+    subsumes_not c.args.c.now c.args.d.now
+    (subst (λ ds. Sought_in c.args.c.now.literals ds None) c.as_slice-2.ensures (subst (λ ls. Sought_in ls c.as_slice-2.result.now None) c.as_slice.ensures
+    (subst (Sought_in c.as_slice.result.now c.as_slice-2.result.now) c.in-None.is c.in_ok-seek.ensures)))
+
+pub returns-in_ok-made-in-Some : goal.returns-in_ok-made-in-Some
+returns-in_ok-made-in-Some c =
     let fewer : length c.args.c.now.literals ≤ length c.args.d.now.literals = omega arith in
-    subsumes_is c.args.c.now c.args.d.now binds c.in_ok-made.made (ap as_binds c.begin-binds.ensures) fewer
-    (subst (λ ls. Covers binds c.args.d.now.literals ls c.in_ok-made.made) c.as_slice.ensures (subst (λ ds. Covers binds ds (drop 0 c.as_slice.result.now) c.in_ok-made.made) c.as_slice-2.ensures c.in_ok-made.ensures.covers))
+    let found : literals c.in-Some.found ≡ c.args.c.now.literals = subst (Sought_in c.as_slice.result.now c.as_slice-2.result.now) c.in-Some.is c.in_ok-seek.ensures ∙ c.as_slice.ensures in
+    let ordered = literals c.in_ok-ordered-in-Some.ordered in
+    let made = c.in_ok-made-in-Some.made in
+    subsumes_when c.args.c.now c.args.d.now ordered made fewer (subst (λ ls. SameSends ls ordered) found c.in_ok-ordered-in-Some.ensures)
+    (subst (λ ds. IsTrue made ↔ Sendable ds ordered) c.as_slice-in-Some-2.ensures (subst (λ os. IsTrue made ↔ Sendable c.as_slice-in-Some-2.result.now (literals os)) c.as_slice-in-Some.ensures c.in_ok-made-in-Some.ensures))

@@ -1,5 +1,5 @@
 use Rattle.std.proofs.Common.{◌≡◌, ◌≤◌, take, length}
-use Rattle.fo_infer.proofs.subsuming.undo.Given as goal
+use Rattle.fo_infer.proofs.covering.undo.Given as goal
 
 abbrev pub invariant-loop-binds : goal.invariant-loop-binds
 invariant-loop-binds l = record {

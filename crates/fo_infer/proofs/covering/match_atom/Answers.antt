@@ -3,7 +3,7 @@ use Rattle.fo_terms.specs.Substitution.{put}
 use Rattle.fo_unify.specs.Shown.{as_binds}
 use Rattle.fo_infer.specs.inner.Covering.{Narrows}
 use Rattle.fo_infer.proofs.Narrowing.{atom_holds, atom_sides, narrows_then, narrows_not}
-use Rattle.fo_infer.proofs.subsuming.match_atom.Goals as goal
+use Rattle.fo_infer.proofs.covering.match_atom.Goals as goal
 
 pub returns-then-not-branch-clause-narrows : goal.returns-then-not-branch-clause-narrows
 returns-then-not-branch-clause-narrows c =

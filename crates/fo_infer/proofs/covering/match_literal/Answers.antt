@@ -1,7 +1,7 @@
 use Rattle.fo_unify.specs.Shown.{as_binds}
 use Rattle.fo_infer.proofs.Factorings.{signs_same}
 use Rattle.fo_infer.proofs.Narrowing.{literal_narrows}
-use Rattle.fo_infer.proofs.subsuming.match_literal.Goals as goal
+use Rattle.fo_infer.proofs.covering.match_literal.Goals as goal
 
 pub returns-clause-narrows : goal.returns-clause-narrows
 returns-clause-narrows c =
