@@ -2,6 +2,7 @@ pub mod Following
 pub mod Functional
 pub mod Indexes
 pub mod Inputs
+pub mod Marks
 pub mod Picks
 pub mod Saturation
 pub mod Searches

@@ -16,7 +16,7 @@ use Rattle.metis_core.specs.State.{State, without}
 use Rattle.metis_core.specs.Pick.{IsOldest, IsLightest}
 use Rattle.metis_core.specs.Offer.{Passed, on, over, found, spent, most_kept}
 use Rattle.metis_core.specs.Search.{position_of}
-use Rattle.metis_core.specs.Stock.{IsIndex, clauses}
+use Rattle.metis_core.specs.Stock.{IsIndex, AreMarks, clauses}
 
 -- the state that the stock holds
 abbrev pub state_of : Stock → State
@@ -27,6 +27,7 @@ pub record IsSound (stock : Stock) : Type 0 where
   pub index : IsIndex stock.places stock.lines
   pub active : All (λ n. n < length stock.lines) stock.active
   pub waiting : All (λ e. e.number < length stock.lines) stock.waiting
+  pub marks : AreMarks stock.lines stock.active stock.marks
   pub few : length stock.lines ≤ most_kept
 
 -- besides, each line follows by its origin

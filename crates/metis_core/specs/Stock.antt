@@ -1,10 +1,11 @@
 -- How the code holds the state of a search.
-use Rattle.std.specs.Prelude.{◌≡◌, ℕ, nat_eq, List, [], ◌∷◌, ◌++◌, map, unwrap_or, Some, slice_get, Contains, if◌then◌else◌, ◌==◌}
+use Rattle.std.specs.Prelude.{◌≡◌, ℕ, nat_eq, List, [], ◌∷◌, ◌++◌, map, unwrap_or, Some, slice_get, slice_index_or, length, ◌<◌, Contains, if◌then◌else◌, ◌==◌}
 use Rattle.std.specs.declared.hash.FoldHasher.{FoldHasher}
 use Rattle.std.specs.declared.hash.BuildHasherDefault.{BuildHasherDefault}
 use Rattle.std.specs.HashMap.{get, HashMap}
 use Rattle.fo_terms.specs.declared.clause.Clause.{Clause}
 use Rattle.fo_infer.specs.declared.refutation.Line.{Line}
+use Rattle.fo_infer.specs.Symbols.{clause_symbols}
 use Rattle.metis_core.specs.Print.{clause_print}
 
 -- numbers of clauses by their prints
@@ -26,6 +27,11 @@ IsIndex m lines = (n : ℕ) (l : Line) → slice_get lines n ≡ Some l → Cont
 -- the clauses of lines
 abbrev pub clauses : List Line → List Clause
 clauses lines = map (λ l. l.clause) lines
+
+-- the marks of the active clauses' symbols, in their order
+pub record AreMarks (lines : List Line) (active marks : List ℕ) : Type 0 where
+  pub as_many : length marks ≡ length active
+  pub each : (k : ℕ) (p : Clause) → k < length active → slice_get (clauses lines) (slice_index_or active k 0) ≡ Some p → slice_index_or marks k 0 ≡ clause_symbols p
 
 -- the line of this number holds the clause
 abbrev pub IsLine : List Line → Clause → ℕ → Type 0

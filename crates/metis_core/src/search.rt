@@ -196,6 +196,13 @@ impl Search {
         &self.stock.lines
     }
 
+    /// How many picks were made.
+    pub fn picks(&self) -> u32
+        ensures { result ≡ self.now.picks }
+    {
+        self.picks
+    }
+
     /// Hands out the refutation: the kept clauses by number, and behind them the empty clause. It takes no memory.
     pub fn into_refutation(self) -> Refutation
         requires { self.reached ≡ Turn.Found }

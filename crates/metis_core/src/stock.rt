@@ -1,4 +1,6 @@
-ghost use Rattle.std.specs.Prelude.{◌≡◌, ◌≢◌, ◌↔◌, ◌<◌, ◌≤◌, ◌++◌, ◌∷◌, [], IsTrue, IfOk, OnOk, length, MatchBool, MatchOption};
+ghost use Rattle.std.specs.Prelude.{◌≡◌, ◌≢◌, ◌↔◌, ◌<◌, ◌≤◌, ◌++◌, ◌∷◌, [], IsTrue, IfOk, OnOk, Some, slice_get, slice_index_or, length, MatchBool, MatchOption};
+ghost use Rattle.fo_infer.specs.Symbols.{clause_symbols};
+ghost use Rattle.metis_core.specs.Stock.{clauses};
 ghost use Rattle.fo_terms.specs.declared.clause.Clause.{Clause};
 ghost use Rattle.fo_terms.specs.Weight.{clause_size};
 ghost use Rattle.fo_infer.specs.Subsumption.{Subsumes};
@@ -11,7 +13,7 @@ use crate::known::{Places, is_known, note};
 use crate::print::print_of;
 use crate::stop::Stop;
 use crate::waiting::{Entry, Waiting};
-use fo_infer::{Line, Origin, subsumes};
+use fo_infer::{Line, Origin, may_subsume, subsumes, symbols_of};
 use fo_terms::Clause;
 use std::alloc::Global;
 use std::collections::HashMap;
@@ -30,6 +32,8 @@ pub struct Stock {
     pub lines: Rows<Line>,
     pub places: Places,
     pub active: Rows<u32>,
+    /// the marks of the active clauses' symbols, in their order
+    pub marks: Rows<u64>,
     pub waiting: Waiting,
 }
 
@@ -45,16 +49,33 @@ pub fn empty_stock(alloc: Global) -> Stock
         lines: Rows::begin(alloc),
         places: HashMap::new(alloc),
         active: Rows::begin(alloc),
+        marks: Rows::begin(alloc),
         waiting: Waiting::begin(alloc),
     }
+}
+
+/// Whether the active clause at this place, whose marks are looked at first, subsumes the clause with these marks.
+fn is_subsumed_at(stock: &Stock, k: usize, c: &Clause, marks: u64) -> Result<bool, NoMemory>
+    requires sound { IsSound stock.now }
+    requires place { k < length stock.now.active }
+    requires marks { marks ≡ clause_symbols c.now }
+    ensures { IfOk result (λ b. (p : Clause) → slice_get (clauses stock.now.lines) (slice_index_or stock.now.active k 0) ≡ Some p → IsTrue b ↔ Subsumes p c.now) }
+{
+    if !may_subsume(*stock.marks.at(k), marks) {
+        return Ok(false);
+    }
+    let n = *stock.active.at(k);
+    let made = subsumes(stock.alloc, &stock.lines.at(n as usize).clause, c)?;
+    Ok(made)
 }
 
 fn is_subsumed(stock: &Stock, c: &Clause) -> Result<bool, NoMemory>
     requires { IsSound stock.now }
     ensures { IfOk result (λ b. IsTrue b ↔ ((p : Clause) × IsActive (state_of stock.now) p × Subsumes p c.now)) }
 {
-    for n in stock.active.as_slice() {
-        if subsumes(stock.alloc, &stock.lines.at(*n as usize).clause, c)? {
+    let marks = symbols_of(c);
+    for k in 0..stock.active.len() {
+        if is_subsumed_at(stock, k, c, marks)? {
             return Ok(true);
         }
     }
@@ -132,6 +153,8 @@ pub fn activate(stock: &mut Stock, oldest: bool) -> Result<u32, NoMemory>
 {
     match take_next(&mut stock.waiting, oldest) {
         Some(entry) => {
+            let marks = symbols_of(&stock.lines.at(entry.number as usize).clause);
+            stock.marks.push(marks)?;
             stock.active.push(entry.number)?;
             Ok(entry.number)
         }

@@ -1,22 +1,34 @@
-use Rattle.std.proofs.Common.{◌≡◌, ◌≤◌, length, get_or, Some, slice_get, subst, sym, ap, ◌∙◌, below_more}
+use Rattle.std.proofs.Common.{◌≡◌, ◌≤◌, length, get_or, Some, slice_get, subst, sym, ap, ◌∙◌, below_more, arith, refl, ◌<◌}
+use Rattle.std.proofs.lemmas.List.{get_or_default}
+use Rattle.std.proofs.lemmas.Option.{slice_get-get_or}
 use Rattle.fo_terms.specs.declared.clause.Clause.{Clause}
 use Rattle.fo_infer.specs.Subsumption.{Subsumes}
 use Rattle.metis_core.specs.Stock.{clauses}
-use Rattle.metis_core.proofs.Indexes.{clause_at, some_same}
-use Rattle.metis_core.proofs.Stocks.{none_active}
+use Rattle.metis_core.proofs.Stocks.{none_active, held_as_many}
 use Rattle.metis_core.proofs.stock.is_subsumed.Goals as goal
 
-pub loop-n-preserved : goal.loop-n-preserved
-loop-n-preserved c =
+pub loop-k-preserved : goal.loop-k-preserved
+loop-k-preserved c =
     let lines = c.args.stock.now.lines in
-    let n = get_or c.as_slice-n-items.result.now c.loop-n.n-index 0 in
-    below_more (λ k. (p : Clause) → slice_get (clauses lines) (get_or c.args.stock.now.active k 0) ≡ Some p → Subsumes p c.args.c.now → ⊥) c.loop-n.n-index c.loop-n.invariant
-    (λ p at sub.
-    let same : p ≡ c.at.result.now.clause = some_same p c.at.result.now.clause
-    (sym at ∙ ap (λ l. slice_get (clauses lines) (get_or l c.loop-n.n-index 0)) (sym c.as_slice-n-items.ensures) ∙ clause_at lines n c.at.result.now c.at.ensures) in
-    let wrong = c.in_ok-subsumes.ensures.1 (subst (λ q. Subsumes q c.args.c.now) same sub) in
-    cc)
+    below_more (λ j. (p : Clause) → slice_get (clauses lines) (get_or c.args.stock.now.active j 0) ≡ Some p → Subsumes p c.args.c.now → ⊥) c.loop-k.k c.loop-k.invariant
+    (λ p at sub. let wrong = (c.in_ok-is_subsumed_at.ensures p at).1 sub in cc)
 
 pub returns : goal.returns
 returns c =
-    (λ h. cc, λ found. absurd (none_active c.args.stock.now c.args.c.now c.loop-n.n-index (subst (λ l. length l ≤ c.loop-n.n-index) c.as_slice-n-items.ensures c.loop-n-test.false) c.loop-n.invariant found.0 found.1 found.2))
+    let past : length c.args.stock.now.active ≤ c.loop-k.k = omega arith in
+    (λ h. cc, λ found. absurd (none_active c.args.stock.now c.args.c.now c.loop-k.k past c.loop-k.invariant found.0 found.1 found.2))
+
+pub returns-then-branch : goal.returns-then-branch
+returns-then-branch c = (
+  λ told.
+      let lines = c.args.stock.now.lines in
+      let active = c.args.stock.now.active in
+      let k = c.loop-k.k in
+      let n = get_or active k 0 in
+      let within : k < length active = omega arith in
+      let inside : n < length (clauses lines) = (let few = c.requires.active k 0 within in let many = held_as_many lines in omega arith) in
+      let there = slice_get-get_or (clauses lines) n c.args.c.now inside in
+      let p = get_or (clauses lines) n c.args.c.now in
+      (p, (n, (k, within, sym (get_or_default active k 0 n within)), there), (c.in_ok-is_subsumed_at.ensures p there).0 c.if-branch.true),
+  λ found. refl,
+)

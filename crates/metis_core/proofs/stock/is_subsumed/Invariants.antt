@@ -5,5 +5,5 @@ use Rattle.metis_core.specs.Stock.{clauses}
 use Rattle.metis_core.proofs.stock.is_subsumed.Given as goal
 
 -- no active clause so far
-abbrev pub invariant-loop-n : goal.invariant-loop-n
-invariant-loop-n l = (k : ℕ) → k < l.n-index → (p : Clause) → slice_get (clauses l.stock.lines) (get_or l.stock.active k 0) ≡ Some p → Subsumes p l.c → ⊥
+abbrev pub invariant-loop-k : goal.invariant-loop-k
+invariant-loop-k l = (j : ℕ) → j < l.k → (p : Clause) → slice_get (clauses l.stock.lines) (get_or l.stock.active j 0) ≡ Some p → Subsumes p l.c → ⊥

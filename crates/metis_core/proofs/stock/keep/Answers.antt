@@ -1,9 +1,10 @@
 use Rattle.std.proofs.Common.{◌≡◌, ◌<◌, subst, sym, ap, ◌∙◌, arith, ◌+◌, length, All}
 use Rattle.std.proofs.lemmas.List.{length_push}
-use Rattle.metis_core.specs.Stock.{IsIndex, Notes}
+use Rattle.metis_core.specs.Stock.{IsIndex, AreMarks, Notes}
 use Rattle.metis_core.specs.Print.{clause_print}
 use Rattle.fo_infer.specs.declared.refutation.Line.{Line}
 use Rattle.metis_core.specs.declared.waiting.Entry.{Entry}
+use Rattle.metis_core.proofs.Marks.{marks_grow}
 use Rattle.metis_core.proofs.Stocks.{index_grows, below_grows, entries_grow}
 use Rattle.metis_core.proofs.stock.keep.Goals as goal
 
@@ -20,5 +21,6 @@ returns-clause-sound c =
       active = below_grows old.active (length old.lines) (length c.push-2.new.self) (omega arith) c.requires.sound.active;
       waiting = subst (λ m. All (λ e. e.number < m) c.push.new.self) (sym more)
           (subst (All (λ e. e.number < length old.lines + 1)) (sym c.in_ok-push.ensures.ok) (entries_grow old.waiting entry (length old.lines) c.len-number.ensures c.requires.sound.waiting));
+      marks = subst (λ ls. AreMarks ls old.active old.marks) (sym c.in_ok-push-2.ensures.ok) (marks_grow old.lines line old.active old.marks c.requires.sound.active c.requires.sound.marks);
       few = omega (arith, c.requires.room);
     }
