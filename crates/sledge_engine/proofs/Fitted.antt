@@ -19,8 +19,8 @@ use Rattle.theory_reader.specs.Sound.{fact_names, seen_from}
 use Rattle.theory_reader.proofs.SeenNames.{seen_differ}
 use Rattle.theory_reader.specs.Seen.{IsEnvOf, seen}
 use Rattle.formula_clauses.specs.Fits.{fits}
-use Rattle.sledge_engine.specs.Choice.{is_named, places_from, visible, visible_facts}
-use Rattle.sledge_engine.specs.Fitting.{fact_fits, goal_fits, signature}
+use Rattle.sledge_engine.specs.Choice.{is_named, visible_facts}
+use Rattle.slot_work.specs.Visible.{places_from, visible, fact_fits, goal_fits, signature}
 use Rattle.sledge_engine.specs.inner.Visible.{IsSeen, fits_at}
 use Rattle.sledge_engine.proofs.Few.{few_seen}
 
@@ -79,14 +79,14 @@ places_more p xs i d out small lt is =
 -- ---- names
 
 module _ (p : Fact → Bool) where
-  kept : (w : List ℕ) (f : Fact) (fs : List Fact) (b : Bool) → p f ≡ b → bytes_eq w f.name ≡ false →
+  pub kept : (w : List ℕ) (f : Fact) (fs : List Fact) (b : Bool) → p f ≡ b → bytes_eq w f.name ≡ false →
       is_named (fact_names (filter p (f ∷ fs))) w ≡ is_named (fact_names (filter p fs)) w
   kept w f fs true passed other =
       ap (λ b. is_named (fact_names (if b then f ∷ filter p fs else filter p fs)) w) passed ∙ ap (λ b. b || is_named (fact_names (filter p fs)) w) other
   kept w f fs false passed other = ap (λ b. is_named (fact_names (if b then f ∷ filter p fs else filter p fs)) w) passed
 
   -- a name that no fact has is the name of none that passes
-  absent : (w : List ℕ) (fs : List Fact) → is_named (fact_names fs) w ≡ false → is_named (fact_names (filter p fs)) w ≡ false
+  pub absent : (w : List ℕ) (fs : List Fact) → is_named (fact_names fs) w ≡ false → is_named (fact_names (filter p fs)) w ≡ false
   absent w [] none = refl
   absent w (f ∷ fs) none =
       let both = both_false (bytes_eq w f.name) (is_named (fact_names fs) w) none in
@@ -119,7 +119,7 @@ module _ (p : Fact → Bool) where
       kept w f fs (p f) refl other ∙ rest
       ∙ sym (ap (passes_at (f ∷ fs)) (at_rest (bytes_eq w) f.name (fact_names fs) other) ∙ later f fs (place w (fact_names fs)))
 
-  not_true : (b : Bool) → IsTrue (not b) → b ≡ false
+  pub not_true : (b : Bool) → IsTrue (not b) → b ≡ false
   not_true true h = absurd cc
   not_true false h = refl
 
@@ -134,9 +134,12 @@ distinct_of : (t : Theory) (goal : ℕ) (o : Option Goal) → slice_get t.goals 
 distinct_of t goal None is = refl
 distinct_of t goal (Some g) is = seen_differ t.types t.consts t.facts t.goals goal g t.names_differ is
 
+pub distinct_seen : (t : Theory) (goal : ℕ) → IsTrue (distinct (fact_names (seen t goal)))
+distinct_seen t goal = distinct_of t goal (slice_get t.goals goal) refl
+
 -- a name is visible where what stands at its place fits
 pub visible_at : (t : Theory) (goal : ℕ) (w : List ℕ) → is_named (fact_names (visible_facts t goal)) w ≡ passes_at (fact_fits t) (seen t goal) (place w (fact_names (seen t goal)))
-visible_at t goal w = named_place (fact_fits t) w (seen t goal) (distinct_of t goal (slice_get t.goals goal) refl)
+visible_at t goal w = named_place (fact_fits t) w (seen t goal) (distinct_seen t goal)
 
 -- what stands at a name's place is visible where it fits
 pub visible_by_place : (t : Theory) (goal : ℕ) (e : Env) (names : List (List ℕ)) (name : List ℕ) (k : ℕ) → IsSeen t goal e names → place name names ≡ Some k →

@@ -14,7 +14,7 @@ use Rattle.mepo_filter.specs.Ranking.{is_above, ranked}
 use Rattle.mepo_filter.specs.Rounds.{Round, chosen_in, is_taken, next, rounds, taken, unless_none}
 use Rattle.mepo_filter.specs.Scores.{Candidate, weight_among}
 use Rattle.mepo_filter.proofs.Members.{any_in_order, any_map}
-use Rattle.sledge_engine.specs.Choice.{places_from}
+use Rattle.slot_work.specs.Visible.{places_from}
 
 neither : (a b : Bool) → a ≡ false → b ≡ false → (a || b) ≡ false
 neither a b left right = ap (λ x. x || b) left ∙ right

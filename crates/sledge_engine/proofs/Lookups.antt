@@ -1,6 +1,6 @@
 -- Tables of names.
 use Rattle.std.proofs.Common.{ℕ, ◌≡◌, ◌∙◌, ◌+◌, ◌<◌, Bool, true, false, List, [], ◌∷◌, ◌++◌, length, take, map, get_or, refl, sym, ap}
-use Rattle.std.specs.Prelude.{Option, Some, None, is_some, option_map, filter}
+use Rattle.std.specs.Prelude.{Option, Some, None, is_some, option_map}
 use Rattle.std.specs.List.{list_any, position}
 use Rattle.std.specs.Prelude.{◌||◌}
 use Rattle.std.specs.Str.{bytes_eq}
@@ -10,7 +10,8 @@ use Rattle.std.proofs.lemmas.Slice.Eq.{bytes_eq-Decides}
 use Rattle.theory_reader.specs.declared.statement.Fact.{Fact}
 use Rattle.theory_terms.specs.Words.{place}
 use Rattle.theory_terms.proofs.Places.{at_first, at_rest}
-use Rattle.sledge_engine.specs.Choice.{has_name, is_named, places_from}
+use Rattle.sledge_engine.specs.Choice.{has_name, is_named}
+use Rattle.slot_work.specs.Visible.{places_from}
 use Rattle.sledge_engine.specs.inner.Lookups.{Finds, Adds}
 
 is_some_map : {X Y : Type 0} (f : X → Y) (o : Option X) → is_some (option_map f o) ≡ is_some o
@@ -66,7 +67,3 @@ module _ (names table : List (List ℕ)) (found : Finds names table) where
   pub same_places : (i : ℕ) (facts : List Fact) → places_from i (has_name table) facts ≡ places_from i (has_name names) facts
   same_places i [] = refl
   same_places i (f ∷ facts) = rw (found f.name, same_places (i + 1) facts)
-
-  pub same_named : (facts : List Fact) → filter (has_name table) facts ≡ filter (has_name names) facts
-  same_named [] = refl
-  same_named (f ∷ facts) = rw (found f.name, same_named facts)

@@ -1,12 +1,12 @@
 -- The facts that a command names.
-use Rattle.std.specs.Prelude.{ℕ, ◌≡◌, ◌+◌, Bool, false, IsTrue, if◌then◌else◌, List, [], ◌∷◌, ◌++◌, Option, filter, All}
+use Rattle.std.specs.Prelude.{ℕ, ◌≡◌, Bool, false, IsTrue, List, [], ◌∷◌, ◌++◌, Option, filter, get_or, map, All}
 use Rattle.std.specs.List.{list_any, position}
 use Rattle.std.specs.Str.{bytes_eq}
 use Rattle.theory_reader.specs.declared.statement.Fact.{Fact}
 use Rattle.theory_reader.specs.declared.theory.Theory.{Theory}
 use Rattle.theory_reader.specs.Sound.{fact_names}
 use Rattle.theory_reader.specs.Seen.{seen}
-use Rattle.sledge_engine.specs.Fitting.{fact_fits}
+use Rattle.slot_work.specs.Visible.{fact_fits, places_from}
 
 -- the name is one of these
 abbrev pub is_named : List (List ℕ) → List ℕ → Bool
@@ -16,27 +16,19 @@ is_named names name = list_any (bytes_eq name) names
 abbrev pub has_name : List (List ℕ) → Fact → Bool
 has_name names f = is_named names f.name
 
--- the places, counted from `i`, of the items that pass
-abbrev pub places_from : {X : Type 0} → ℕ → (X → Bool) → List X → List ℕ
-places_from i p [] = []
-places_from i p (x ∷ xs) = if p x then i ∷ places_from (i + 1) p xs else places_from (i + 1) p xs
-
 -- the numbers of the named facts beside a goal, ascending
 abbrev pub chosen : List (List ℕ) → Theory → ℕ → List ℕ
 chosen names t goal = places_from 0 (has_name names) (seen t goal)
 
--- these facts, in file order
-abbrev pub chosen_facts : List (List ℕ) → Theory → ℕ → List Fact
-chosen_facts names t goal = filter (has_name names) (seen t goal)
+-- the names at these places of a list
+abbrev pub names_at : List (List ℕ) → List ℕ → List (List ℕ)
+names_at names numbers = map (λ n. get_or names n []) numbers
 
 -- the number of the goal of this name
 abbrev pub goal_place : Theory → List ℕ → Option ℕ
 goal_place t name = position (λ g. bytes_eq name g.name) t.goals
 
--- the numbers of the facts that a goal may be proved from: of those beside it the ones that fit
-abbrev pub visible : Theory → ℕ → List ℕ
-visible t goal = places_from 0 (fact_fits t) (seen t goal)
-
+-- the facts that a goal may be proved from: of those beside it the ones that fit
 abbrev pub visible_facts : Theory → ℕ → List Fact
 visible_facts t goal = filter (fact_fits t) (seen t goal)
 

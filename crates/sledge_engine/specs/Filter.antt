@@ -7,7 +7,7 @@ use Rattle.theory_reader.specs.Seen.{seen}
 use Rattle.mepo_filter.specs.declared.chosen.Chosen.{Chosen}
 use Rattle.mepo_filter.specs.Mepo.{mepo}
 use Rattle.mepo_filter.specs.Slices.{slice_at}
-use Rattle.sledge_engine.specs.Choice.{visible}
+use Rattle.slot_work.specs.Visible.{visible}
 use Rattle.sledge_engine.specs.Files.{Outside}
 use Rattle.sledge_engine.specs.Goals.{AboutGoal}
 use Rattle.sledge_engine.specs.Texts.{Is}

@@ -4,7 +4,7 @@ use Rattle.race_outside.specs.Shelves.{Files}
 use Rattle.theory_reader.specs.declared.theory.Theory.{Theory}
 use Rattle.sledge_engine.specs.Choice.{goal_place}
 use Rattle.sledge_engine.specs.Files.{Outside, HoldsTheory, TheoryRefusal}
-use Rattle.sledge_engine.specs.Fitting.{goal_fits}
+use Rattle.slot_work.specs.Visible.{goal_fits}
 use Rattle.sledge_engine.specs.Texts.{goal_text, large_goal_text}
 
 -- the theory that stands under this name has a goal of this name, which fits

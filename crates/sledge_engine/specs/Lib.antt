@@ -1,15 +1,13 @@
 pub mod Words
 pub mod Texts
 pub mod Choice
-pub mod Built
-pub mod Proofs
 pub mod Used
 pub mod Files
-pub mod Fitting
 pub mod Goals
 pub mod Metis
 pub mod Check
 pub mod Filter
 pub mod Problem
 pub mod Replies
+pub mod Laws
 pub mod inner

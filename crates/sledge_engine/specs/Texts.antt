@@ -44,9 +44,6 @@ abbrev pub SaysFault : TheoryFault → List ℕ → Type 0
 SaysFault (fault.At at k) text = text ≡ theory_text at k
 SaysFault fault.NoMemory text = ⊥
 
-abbrev pub not_built_text : List ℕ → List ℕ
-not_built_text name = around (codes "fault: ") name (codes " not built\n")
-
 abbrev pub goal_text : List ℕ → List ℕ
 goal_text name = around (codes "fault: goal ") name (codes "\n")
 

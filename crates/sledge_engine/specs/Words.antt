@@ -6,15 +6,17 @@ use Rattle.sledge_words.specs.declared.line.Line.{Line}
 abbrev pub arguments : List (List ℕ) → Line → List (List ℕ)
 arguments words l = map (λ place. get_or words place []) l.places
 
--- `metis`: whether the facts of these names prove the goal of this name in the theory of this name, and whether the proof is to be shown
+-- `metis`: whether the facts of these names prove the goal of this name in the theory of this name, within so many picks of a search, and whether
+-- the proof is to be shown
 pub record MetisLine : Type 0 where
   pub theory : List ℕ
   pub goal : List ℕ
   pub facts : List (List ℕ)
+  pub budget : ℕ
   pub shows : Bool
 
 abbrev pub metis_line : Line → List (List ℕ) → MetisLine
-metis_line l words = record { theory = get_or words 0 []; goal = get_or words 1 []; facts = drop 2 words; shows = l.proof }
+metis_line l words = record { theory = get_or words 0 []; goal = get_or words 1 []; facts = drop 2 words; budget = l.budget; shows = l.proof }
 
 -- `check`: whether the file of the second name is a proof over the theory of the first
 pub record CheckLine : Type 0 where

@@ -1,4 +1,4 @@
-ghost use Rattle.std.specs.Prelude.{◌≡◌, ◌<◌, ◌++◌, [], get_or, length, map, IfOk, OnOk};
+ghost use Rattle.std.specs.Prelude.{◌≡◌, ◌<◌, ◌++◌, [], length, map, IfOk, OnOk};
 ghost use Rattle.std.specs.List.{flat_map};
 ghost use Rattle.theory_reader.specs.Sound.{fact_names};
 ghost use Rattle.theory_reader.specs.Seen.{IsEnvOf};
@@ -7,6 +7,7 @@ ghost use Rattle.sledge_engine.specs.Texts.{Is};
 ghost use Rattle.sledge_engine.specs.inner.Fetches.{outside};
 ghost use Rattle.sledge_engine.specs.inner.Shown.{slice_shown};
 
+use crate::choice::name_at;
 use crate::posing::{Posed, open_goal};
 use crate::seen::seen_facts;
 use crate::slices::chosen_by_slice;
@@ -17,16 +18,6 @@ use race_outside::Shelf;
 use std::alloc::Global;
 use text_kit::{Bytes, NoMemory, put_decimal};
 use theory_reader::{Fact, Theory};
-
-/// The name of the fact with this number, where there is one.
-fn name_at<'t>(facts: &[&'t Fact], number: u32) -> &'t [u8]
-    ensures { result.now ≡ get_or (fact_names (map (λ f. f.now) facts.now)) number [] }
-{
-    match facts.get(number as usize) {
-        Some(fact) => fact.name.as_slice(),
-        None => b"",
-    }
-}
 
 /// Appends the line of a chosen fact.
 fn put_line(text: &mut Bytes, facts: &[&Fact], chosen: &Chosen) -> Result<(), NoMemory>

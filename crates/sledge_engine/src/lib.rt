@@ -7,6 +7,7 @@ mod commands;
 mod fetching;
 mod filter;
 mod generate;
+mod laws;
 mod metis;
 mod opening;
 mod posing;
@@ -20,6 +21,7 @@ mod used;
 mod visible;
 mod words;
 
+pub use laws::{posed_goals_are_not_refused, status_tells_found};
 pub use top::answer;
 
 #[cfg(test)]

@@ -1,26 +1,26 @@
-ghost use Rattle.std.specs.Prelude.{◌≡◌, ◌<◌, ◌++◌, [], length, IfOk, OnOk, None, map};
+ghost use Rattle.std.specs.Prelude.{◌≡◌, ◌<◌, ◌++◌, [], length, IfOk, IsTrue, OnOk, map};
 ghost use Rattle.theory_reader.specs.Sound.{fact_names};
-ghost use Rattle.theory_reader.specs.Seen.{IsEnvOf};
-ghost use Rattle.sledge_engine.specs.Built.{first_other, IsBuilt};
-ghost use Rattle.sledge_engine.specs.Choice.{AllVisible, chosen_facts};
+ghost use Rattle.theory_reader.specs.Seen.{IsEnvOf, seen};
+ghost use Rattle.sledge_engine.specs.Choice.{AllVisible, chosen as chosen_of, names_at};
+ghost use Rattle.slot_work.specs.Visible.{goal_fits};
 ghost use Rattle.sledge_engine.specs.Metis.{GoalReply, MetisReply, shown};
 ghost use Rattle.sledge_engine.specs.Texts.{metis_text};
-ghost use Rattle.sledge_engine.specs.inner.Asked.{AreChosen, AreFormed, IsAsked, IsFound, said};
+ghost use Rattle.sledge_engine.specs.inner.Asked.{IsAsked, IsReplayed, said};
 ghost use Rattle.sledge_engine.specs.inner.Fetches.{outside};
 ghost use Rattle.sledge_engine.specs.inner.Shown.{metis_shown};
-ghost use Rattle.theory_reader.specs.Seen.{seen};
 
-use crate::choice::{Chosen, choose, put_names};
+use crate::choice::{choose, put_names_at};
 use crate::posing::{Posed, open_goal};
 use crate::seen::seen_facts;
 use crate::texts::put_refusal;
-use crate::visible::first_hidden;
+use crate::visible::{first_hidden, visible_facts};
 use crate::words::MetisLine;
-use ground_metis::{Lit, Outcome, prove, read_clause};
+use hol_kernel::Proven;
 use hol_terms::Env;
 use kernel_rules::Step;
 use proof_text::print_proof;
 use race_outside::Shelf;
+use slot_work::{Job, Replayed, replay};
 use std::alloc::Global;
 use text_kit::{Bytes, NoMemory, Rows};
 use theory_reader::{Fact, Theory};
@@ -34,31 +34,10 @@ struct Asked<'a> {
     /// The environment's facts with their names, by their numbers.
     facts: &'a [&'a Fact],
     words: &'a [&'a str],
-    /// Picks of the search.
+    /// Picks of a search.
     budget: u32,
     /// Whether the proof is to be shown.
     shows: bool,
-}
-
-/// The clauses that facts are, or the first fact that is none.
-#[derive(Drop)]
-enum Formed<'t> {
-    Clauses(Rows<Rows<Lit>>),
-    Other(&'t Fact),
-}
-
-/// Reads facts as clauses.
-fn form<'t>(alloc: Global, facts: &[&'t Fact]) -> Result<Formed<'t>, NoMemory>
-    ensures { IfOk result (AreFormed (map (λ f. f.now) facts.now)) }
-{
-    let mut clauses = Rows::begin(alloc);
-    for fact in facts {
-        match read_clause(alloc, &fact.formula)? {
-            Some(clause) => clauses.push(clause)?,
-            None => return Ok(Formed::Other(*fact)),
-        }
-    }
-    Ok(Formed::Clauses(clauses))
 }
 
 /// Appends the text of a proof where it is to be shown.
@@ -79,22 +58,21 @@ fn put_shown(
     }
 }
 
-/// Puts the report of a proof from these facts, and the proof where it is to be shown.
+/// Puts the report of a proof, and the proof where it is to be shown.
 fn put_proved(
     alloc: Global,
     asked: &Asked,
-    facts: &[&Fact],
-    steps: &Rows<Step>,
+    proven: &Proven,
     text: &mut Bytes,
 ) -> Result<u8, NoMemory>
     requires goal { asked.now.goal < length asked.now.theory.now.goals }
     requires text { text.old ≡ [] }
-    ensures { IfOk result (λ status. (status ≡ 0) × (text.new ≡ metis_text (fact_names (map (λ f. f.now) facts.now)) ++ shown asked.now.shows asked.now.theory.now asked.now.goal steps.now)) }
+    ensures { IfOk result (λ status. (status ≡ 0) × (text.new ≡ metis_text (names_at (fact_names (map (λ f. f.now) asked.now.facts.now)) proven.now.names) ++ shown asked.now.shows asked.now.theory.now asked.now.goal proven.now.steps)) }
 {
     text.append(b"proof: by metis")?;
-    put_names(text, facts)?;
+    put_names_at(text, asked.facts, proven.names.as_slice())?;
     text.append(b"\n")?;
-    put_shown(alloc, asked, steps, text)?;
+    put_shown(alloc, asked, &proven.steps, text)?;
     Ok(0)
 }
 
@@ -107,89 +85,36 @@ fn put_unproved(text: &mut Bytes, piece: &[u8]) -> Result<u8, NoMemory>
     Ok(1)
 }
 
-/// Reports how the search for a proof from the chosen facts ended.
+/// Reports how the replay of the named facts ended.
 fn report(
     alloc: Global,
     asked: &Asked,
-    chosen: &Chosen,
-    found: &Outcome,
+    replayed: &Replayed,
     text: &mut Bytes,
 ) -> Result<u8, NoMemory>
     requires asked { IsAsked asked.now }
-    requires chosen { AreChosen (said asked.now) (seen asked.now.theory.now asked.now.goal) chosen.now }
     requires visible { AllVisible asked.now.theory.now asked.now.goal (said asked.now) }
-    requires built { IsBuilt asked.now.theory.now asked.now.goal (said asked.now) }
-    requires found { IsFound asked.now found.now }
+    requires replayed { IsReplayed asked.now replayed.now }
     requires text { text.old ≡ [] }
-    ensures { IfOk result (λ status. GoalReply asked.now.theory.now asked.now.goal (said asked.now) asked.now.shows status text.new) }
+    ensures { IfOk result (λ status. GoalReply asked.now.theory.now asked.now.goal (said asked.now) asked.now.budget asked.now.shows status text.new) }
 {
-    match found {
-        Outcome::Proved(steps) => put_proved(alloc, asked, chosen.facts.as_slice(), steps, text),
-        Outcome::Saturated => put_unproved(text, b"proof: not found (saturated)\n"),
-        Outcome::Spent => put_unproved(text, b"proof: not found (spent)\n"),
+    match replayed {
+        Replayed::Proved(proven) => put_proved(alloc, asked, proven, text),
+        Replayed::Saturated => put_unproved(text, b"proof: not found (saturated)\n"),
+        Replayed::Spent => put_unproved(text, b"proof: not found (spent)\n"),
     }
 }
 
-/// Answers where the chosen facts are these clauses.
-fn answer_clauses(
-    alloc: Global,
-    asked: &Asked,
-    chosen: &Chosen,
-    clauses: &[Rows<Lit>],
-    text: &mut Bytes,
-) -> Result<u8, NoMemory>
+/// Replays the named facts, by their numbers.
+fn replay_named(alloc: Global, asked: &Asked, numbers: &Rows<u32>) -> Result<Replayed, NoMemory>
     requires asked { IsAsked asked.now }
-    requires chosen { AreChosen (said asked.now) (seen asked.now.theory.now asked.now.goal) chosen.now }
     requires visible { AllVisible asked.now.theory.now asked.now.goal (said asked.now) }
-    requires built { first_other (chosen_facts (said asked.now) asked.now.theory.now asked.now.goal) ≡ None }
-    requires text { text.old ≡ [] }
-    ensures { IfOk result (λ status. GoalReply asked.now.theory.now asked.now.goal (said asked.now) asked.now.shows status text.new) }
+    requires numbers { numbers.now ≡ chosen_of (said asked.now) asked.now.theory.now asked.now.goal }
+    ensures { IfOk result (IsReplayed asked.now) }
 {
-    match read_clause(alloc, &asked.env.goal)? {
-        Some(goal) => {
-            let numbers = chosen.numbers.as_slice();
-            let found = prove(
-                alloc,
-                asked.env,
-                numbers,
-                clauses,
-                goal.as_slice(),
-                asked.budget,
-            )?;
-            report(alloc, asked, chosen, &found, text)
-        }
-        None => {
-            let name = asked.theory.goals.at(asked.goal as usize).name.as_slice();
-            put_refusal(text, 4, b"fault: ", name, b" not built\n")
-        }
-    }
-}
-
-/// Answers where each named fact is visible and these are they.
-fn answer_chosen(
-    alloc: Global,
-    asked: &Asked,
-    chosen: &Chosen,
-    text: &mut Bytes,
-) -> Result<u8, NoMemory>
-    requires asked { IsAsked asked.now }
-    requires chosen { AreChosen (said asked.now) (seen asked.now.theory.now asked.now.goal) chosen.now }
-    requires visible { AllVisible asked.now.theory.now asked.now.goal (said asked.now) }
-    requires text { text.old ≡ [] }
-    ensures { IfOk result (λ status. GoalReply asked.now.theory.now asked.now.goal (said asked.now) asked.now.shows status text.new) }
-{
-    match form(alloc, chosen.facts.as_slice())? {
-        Formed::Clauses(clauses) => {
-            answer_clauses(alloc, asked, chosen, clauses.as_slice(), text)
-        }
-        Formed::Other(fact) => put_refusal(
-            text,
-            4,
-            b"fault: ",
-            fact.name.as_slice(),
-            b" not built\n",
-        ),
-    }
+    let visible = visible_facts(alloc, asked.env)?;
+    let job = Job::begin(alloc, asked.theory, asked.goal, visible, asked.budget)?;
+    replay(alloc, &job, numbers)
 }
 
 /// Answers where each named fact is visible.
@@ -197,17 +122,18 @@ fn answer_visible(alloc: Global, asked: &Asked, text: &mut Bytes) -> Result<u8, 
     requires asked { IsAsked asked.now }
     requires visible { AllVisible asked.now.theory.now asked.now.goal (said asked.now) }
     requires text { text.old ≡ [] }
-    ensures { IfOk result (λ status. GoalReply asked.now.theory.now asked.now.goal (said asked.now) asked.now.shows status text.new) }
+    ensures { IfOk result (λ status. GoalReply asked.now.theory.now asked.now.goal (said asked.now) asked.now.budget asked.now.shows status text.new) }
 {
-    let chosen = choose(alloc, asked.facts, asked.words)?;
-    answer_chosen(alloc, asked, &chosen, text)
+    let numbers = choose(alloc, asked.facts, asked.words)?;
+    let replayed = replay_named(alloc, asked, &numbers)?;
+    report(alloc, asked, &replayed, text)
 }
 
 /// Answers a goal over its environment and its facts.
 fn answer_asked(alloc: Global, asked: &Asked, text: &mut Bytes) -> Result<u8, NoMemory>
     requires asked { IsAsked asked.now }
     requires text { text.old ≡ [] }
-    ensures { IfOk result (λ status. GoalReply asked.now.theory.now asked.now.goal (said asked.now) asked.now.shows status text.new) }
+    ensures { IfOk result (λ status. GoalReply asked.now.theory.now asked.now.goal (said asked.now) asked.now.budget asked.now.shows status text.new) }
 {
     let names = asked.theory.seen_names(alloc, asked.goal)?;
     match first_hidden(alloc, &names, asked.env, asked.words)? {
@@ -227,8 +153,9 @@ fn answer_goal(
 ) -> Result<u8, NoMemory>
     requires goal { goal < length theory.now.goals }
     requires env { IsEnvOf theory.now goal env.now }
+    requires fits { IsTrue (goal_fits theory.now goal) }
     requires text { text.old ≡ [] }
-    ensures { IfOk result (λ status. GoalReply theory.now goal (metis_shown line.entry).facts (metis_shown line.entry).shows status text.new) }
+    ensures { IfOk result (λ status. GoalReply theory.now goal (metis_shown line.entry).facts (metis_shown line.entry).budget (metis_shown line.entry).shows status text.new) }
 {
     let facts = seen_facts(alloc, theory, goal)?;
     let asked = Asked {

@@ -97,7 +97,7 @@ struct Case<'a> {
     text: &'a [u8],
 }
 
-const CASES: [Case; 36] = [
+const CASES: [Case; 39] = [
     Case {
         theory: IMPLIED,
         line: &["metis", "T", "g", "f1", "f2"],
@@ -165,16 +165,34 @@ const CASES: [Case; 36] = [
         text: b"fault: theory at 30: ill typed\n",
     },
     Case {
-        theory: b"const p : bool; fact e : p & p; fact f : p & p; goal g : p & p;",
-        line: &["metis", "T", "g", "f"],
-        status: 4,
-        text: b"fault: f not built\n",
+        theory: b"const p : bool; const q : bool; fact f1 : p; fact f2 : ~p | q; fact f3 : q; goal g3 : q;",
+        line: &["metis", "T", "g3", "f1", "f3"],
+        status: 0,
+        text: b"proof: by metis f3\n",
     },
     Case {
-        theory: b"const p : bool; fact f : p; goal g : p & p;",
-        line: &["metis", "T", "g", "f"],
-        status: 4,
-        text: b"fault: g not built\n",
+        theory: b"type unit; type nat; const a : nat; const b : nat; fact one : !x:unit. !y:unit. x = y; goal g : a = b;",
+        line: &["metis", "T", "g", "one"],
+        status: 1,
+        text: b"proof: not found (saturated)\n",
+    },
+    Case {
+        theory: ADDED,
+        line: &["metis", "T", "two", "add_zero", "add_suc"],
+        status: 0,
+        text: b"proof: by metis add_zero add_suc\n",
+    },
+    Case {
+        theory: b"type nat; const zero : nat; const suc : nat -> nat; const map : (nat -> nat) -> nat -> nat; fact map_def : !f:nat -> nat. !x:nat. map f x = f x; goal g : map (\\y:nat. suc y) zero = suc zero;",
+        line: &["metis", "T", "g", "map_def"],
+        status: 0,
+        text: b"proof: by metis map_def\n",
+    },
+    Case {
+        theory: b"const u : bool; const v : bool; const r : bool; const t : bool; const p : bool; fact x : u; fact j : r; fact a : p & t; fact d : (p ==> v) & (p ==> t ==> u); goal g : u & v;",
+        line: &["metis", "T", "g", "x", "j", "a", "d", "--budget", "9"],
+        status: 0,
+        text: b"proof: by metis a d\n",
     },
     Case {
         theory: IMPLIED,
@@ -257,8 +275,8 @@ const CASES: [Case; 36] = [
     Case {
         theory: LARGE,
         line: &["metis", "T", "g", "big"],
-        status: 4,
-        text: b"fault: big not built\n",
+        status: 1,
+        text: b"proof: not found (saturated)\n",
     },
     Case {
         theory: LARGE,
@@ -438,7 +456,13 @@ struct ShownCase<'a> {
     checked: &'a [u8],
 }
 
-const SHOWN: [ShownCase; 2] = [
+const SHOWN: [ShownCase; 3] = [
+    ShownCase {
+        theory: b"type nat; const p : nat -> bool; const q : bool; fact some_p : ?x:nat. p x; fact every_p : !x:nat. p x ==> q; goal g : q;",
+        line: &["metis", "T", "g", "some_p", "every_p", "--proof"],
+        begins: b"proof: by metis some_p every_p\nsledge proof 1\ngoal g\n0 ",
+        checked: b"checked: g from some_p every_p\n",
+    },
     ShownCase {
         theory: IMPLIED,
         line: &["metis", "T", "--proof", "g", "f1", "f2"],

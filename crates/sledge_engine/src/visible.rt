@@ -2,9 +2,11 @@ ghost use Rattle.std.specs.Prelude.{◌≡◌, ◌<◌, ◌++◌, ◌^◌, ℕ, 
 ghost use Rattle.formula_clauses.specs.Fits.{fits as fits_as};
 ghost use Rattle.theory_reader.specs.declared.theory.Theory.{Theory};
 ghost use Rattle.theory_reader.specs.Sound.{fact_names};
-ghost use Rattle.sledge_engine.specs.Choice.{is_named, places_from, visible_facts as facts_visible, AllVisible, IsFirstHidden};
+ghost use Rattle.sledge_engine.specs.Choice.{is_named, visible_facts as facts_visible, AllVisible, IsFirstHidden};
+ghost use Rattle.slot_work.specs.Visible.{places_from};
 ghost use Rattle.sledge_engine.specs.inner.Visible.{fits_at, IsSeen};
 
+use crate::choice::push_if;
 use formula_clauses::fits;
 use hol_terms::Env;
 use std::alloc::Global;
@@ -17,13 +19,6 @@ fn fits_as_fact(alloc: Global, env: &Env, number: usize) -> Result<bool, NoMemor
     ensures { IfOk result (λ b. b ≡ fits_at env.now number) }
 {
     fits(alloc, &env.sig, env.facts.at(number), false)
-}
-
-/// Appends a number where it is asked for.
-fn push_if(out: &mut Rows<u32>, asked: bool, number: u32) -> Result<(), NoMemory>
-    ensures { OnOk result (out.new ≡ out.old ++ (if asked then number ∷ [] else [])) }
-{
-    if asked { out.push(number) } else { Ok(()) }
 }
 
 /// The numbers of the facts that fit.

@@ -8,7 +8,7 @@ use Rattle.sledge_engine.specs.declared.posing.Posed.{Posed}
 use Rattle.sledge_engine.specs.declared.posing.Posed.TheVariants.{Goal, Refused}
 use Rattle.sledge_engine.specs.Choice.{goal_place}
 use Rattle.sledge_engine.specs.Files.{Outside}
-use Rattle.sledge_engine.specs.Fitting.{goal_fits}
+use Rattle.slot_work.specs.Visible.{goal_fits}
 use Rattle.sledge_engine.specs.Goals.{GoalRefusal, Poses}
 use Rattle.sledge_engine.specs.Texts.{goal_text, large_goal_text}
 

@@ -6,7 +6,7 @@ use Rattle.sledge_engine.specs.declared.words.SliceLine.{SliceLine as LentSlice}
 use Rattle.sledge_engine.specs.Words.{MetisLine, CheckLine, SliceLine}
 
 abbrev pub metis_shown : LentMetis → MetisLine
-metis_shown l = record { theory = l.theory.now; goal = l.goal.now; facts = map (λ w. w.now) l.facts.now; shows = l.shows }
+metis_shown l = record { theory = l.theory.now; goal = l.goal.now; facts = map (λ w. w.now) l.facts.now; budget = l.budget; shows = l.shows }
 
 abbrev pub check_shown : LentCheck → CheckLine
 check_shown l = record { theory = l.theory.now; proof = l.proof.now }

@@ -6,7 +6,7 @@ use Rattle.hol_terms.proofs.Both.{true_or_false}
 use Rattle.sledge_engine.specs.Check.{StepsReply, other_end, proves}
 use Rattle.sledge_engine.specs.Texts.{checked_text, step_text}
 use Rattle.sledge_engine.specs.Used.{used_names}
-use Rattle.sledge_engine.proofs.Asking.{has}
+use Rattle.sledge_engine.proofs.Items.{has}
 use Rattle.sledge_engine.proofs.Replying.{reply_with}
 use Rattle.sledge_engine.proofs.check.answer_log.Goals as goal
 

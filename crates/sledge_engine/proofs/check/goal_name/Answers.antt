@@ -1,6 +1,6 @@
 use Rattle.std.proofs.Common.{◌∙◌, [], ap, sym}
 use Rattle.std.specs.Prelude.{unwrap_or}
-use Rattle.sledge_engine.proofs.Asking.{get_map}
+use Rattle.sledge_engine.proofs.Items.{get_map}
 use Rattle.sledge_engine.proofs.check.goal_name.Goals as goal
 
 pub returns : goal.returns

@@ -27,5 +27,5 @@ returns-in-Some c =
     let t = a.theory.now in
     let seen : IsSeen t a.goal a.env.now c.in_ok-names.names = record { env = c.requires.asked.env; names_are = c.in_ok-names.ensures } in
     let first = subst (λ o. MatchOption o (AllVisible t a.goal (said a)) (λ w. IsFirstHidden t a.goal (said a) w.now)) c.in-Some.is (c.in_ok-name.ensures t a.goal seen) in
-    reply_with (GoalReply t a.goal (said a) a.shows) c.put_refusal.result 2 (fact_text c.as_bytes.result.now) c.put_refusal.new.text
+    reply_with (GoalReply t a.goal (said a) a.budget a.shows) c.put_refusal.result 2 (fact_text c.as_bytes.result.now) c.put_refusal.new.text
     (hidden c.as_bytes.result.now (subst (IsFirstHidden t a.goal (said a)) (sym c.as_bytes.ensures.value) first)) c.put_refusal.ensures

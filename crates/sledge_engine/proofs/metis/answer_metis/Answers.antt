@@ -16,7 +16,7 @@ returns-in-Goal g c =
     let goal = c.in-Goal.goal in
     let text = c.answer_goal.new.text in
     let posed = subst (IsPosed o line.theory line.goal c.open_goal.new.text) c.in-Goal.is c.in_ok-theory.ensures in
-    if_ok_map c.answer_goal.result (λ status. GoalReply t goal line.facts line.shows status text) (λ status. MetisReply o line status text)
+    if_ok_map c.answer_goal.result (λ status. GoalReply t goal line.facts line.budget line.shows status text) (λ status. MetisReply o line status text)
     (λ status h. about t goal status text posed.0 h) c.answer_goal.ensures
 
 pub returns-in-Refused : goal.returns-in-Refused

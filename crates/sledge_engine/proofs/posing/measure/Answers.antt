@@ -1,5 +1,5 @@
 use Rattle.std.proofs.Common.{◌≡◌, ◌∙◌, false, true, subst, sym}
-use Rattle.sledge_engine.specs.Fitting.{goal_fits}
+use Rattle.slot_work.specs.Visible.{goal_fits}
 use Rattle.sledge_engine.specs.Texts.{large_goal_text}
 use Rattle.sledge_engine.specs.inner.Posing.{IsMissing, large}
 use Rattle.sledge_engine.proofs.Fitted.{goal_by}

@@ -2,9 +2,8 @@ use Rattle.std.proofs.Common.{◌≡◌, ◌∙◌, false, ap, arith, length, ma
 use Rattle.std.specs.List.{list_any}
 use Rattle.theory_reader.specs.Seen.{seen}
 use Rattle.mepo_filter.specs.Slices.{slice_at}
-use Rattle.sledge_engine.specs.Choice.{visible}
+use Rattle.slot_work.specs.Visible.{visible, fact_fits}
 use Rattle.sledge_engine.specs.Filter.{slice_choice}
-use Rattle.sledge_engine.specs.Fitting.{fact_fits}
 use Rattle.sledge_engine.proofs.InRange.{all_below, is_past, none_chosen, places_below}
 use Rattle.sledge_engine.proofs.problem.answer_goal.Goals as goal
 

@@ -1,7 +1,7 @@
 use Rattle.std.proofs.Common.{◌≡◌, ◌<◌, ◌^◌, ◌∙◌, ap, arith, false, length, subst, sym}
 use Rattle.formula_clauses.specs.Fits.{fits}
 use Rattle.mepo_filter.specs.Mepo.{mepo}
-use Rattle.sledge_engine.specs.Choice.{places_from, visible}
+use Rattle.slot_work.specs.Visible.{places_from, visible}
 use Rattle.sledge_engine.specs.Filter.{slice_choice}
 use Rattle.sledge_engine.proofs.Fitted.{few_facts, places_few, visible_by}
 use Rattle.sledge_engine.proofs.Replying.{if_ok_map}

@@ -1,6 +1,6 @@
 use Rattle.std.proofs.Common.{◌<◌, ◌∙◌, ◌+◌, ◌++◌, false, ap, drop, length, subst}
 use Rattle.formula_clauses.specs.Fits.{fits}
-use Rattle.sledge_engine.specs.Choice.{places_from}
+use Rattle.slot_work.specs.Visible.{places_from}
 use Rattle.sledge_engine.proofs.Fitted.{places_more}
 use Rattle.sledge_engine.proofs.visible.visible_facts.Goals as goal
 

@@ -1,6 +1,6 @@
 use Rattle.std.proofs.Common.{◌≡◌, ◌++◌, false, drop}
 use Rattle.formula_clauses.specs.Fits.{fits}
-use Rattle.sledge_engine.specs.Choice.{places_from}
+use Rattle.slot_work.specs.Visible.{places_from}
 use Rattle.sledge_engine.proofs.visible.visible_facts.Given as goal
 
 abbrev pub invariant-loop-i : goal.invariant-loop-i

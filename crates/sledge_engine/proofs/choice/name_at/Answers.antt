@@ -1,6 +1,6 @@
 use Rattle.std.proofs.Common.{◌<◌, ◌∙◌, [], ap, length, sym}
-use Rattle.sledge_engine.proofs.Asking.{from_test, get_both}
-use Rattle.sledge_engine.proofs.filter.name_at.Goals as goal
+use Rattle.sledge_engine.proofs.Items.{from_test, get_both}
+use Rattle.sledge_engine.proofs.choice.name_at.Goals as goal
 
 pub returns-in-Some : goal.returns-in-Some
 returns-in-Some c =
