@@ -68,7 +68,7 @@ module _ (sig : Sig) where
       (applied (con (konst.Eq a)) l binders s (record { term = con (konst.Eq a); after = s }) _ (kept_con (konst.Eq a) binders s) (hl.atom binders s))
       (hr.atom binders ((reading sig l).atom binders s).after)
 
-  equal_formula : (a : Ty) (l r : Term) → (reading sig (with_two (konst.Eq a) l r)).formula
+  pub equal_formula : (a : Ty) (l r : Term) → (reading sig (with_two (konst.Eq a) l r)).formula
       ≡ app_formula (app_head (if is_ty a bool_ty then junction (konst.Eq a) else plain) (reading sig l).formula) (reading sig r) (both apply (both apply (λ binders s. record { term = con (konst.Eq a); after = s }) (reading sig l).atom) (reading sig r).atom)
   equal_formula a l r =
       let half = reading_app sig (con (konst.Eq a)) l ∙ ap (λ q. app_reading q (reading sig l)) (reading_con sig (konst.Eq a)) in
@@ -78,7 +78,7 @@ module _ (sig : Sig) where
   equal_right a l r hl hr = subst (Right sig (with_two (konst.Eq a) l r)) (sym (equal_formula a l r)) (equal_step a l r (is_ty a bool_ty) hl hr)
 
   -- and under quantifiers
-  all_formula : (a : Ty) (t : Term) → (reading sig (app (con (konst.All a)) (lam a t))).formula ≡ scope (konst.All a) a (reading sig t).formula
+  pub all_formula : (a : Ty) (t : Term) → (reading sig (app (con (konst.All a)) (lam a t))).formula ≡ scope (konst.All a) a (reading sig t).formula
   all_formula a t =
       ap (λ q. q.formula) (reading_app sig (con (konst.All a)) (lam a t) ∙ (λ i. app_reading (reading_con sig (konst.All a) i) (reading_lam sig a t i)))
 

@@ -261,7 +261,7 @@ module _ (sig : Sig) (has_bool : 0 < sig.types) where
         var_free_all types _
         (var_free_equal (result_ty types e.ty) (applied_to_all (konst.Aux k) (length types)) body (var_free_applied (variables (λ v. true) (length types)) (con (konst.Aux k)) (var_free-con (konst.Aux k))) clean)
 
-  equation_kept : (k : ℕ) (s : Stage) (e : Aux) → slice_get s.table k ≡ Some e → Each (StandsAlone sig) s.table → Met s → Kept bool_ty [] (lifted_equation sig k s)
+  pub equation_kept : (k : ℕ) (s : Stage) (e : Aux) → slice_get s.table k ≡ Some e → Each (StandsAlone sig) s.table → Met s → Kept bool_ty [] (lifted_equation sig k s)
   unfolding lifted_formula
   equation_kept k s e at alone met =
       let entry : entry_at s.table k ≡ e = ap (λ o. unwrap_or o no_entry) at in

@@ -11,7 +11,7 @@ use std::alloc::Global;
 use text_kit::{NoMemory, Shared};
 
 /// The number of lambdas that the term begins with.
-fn run_length(t: &Term) -> Result<u64, NoMemory>
+pub(crate) fn run_length(t: &Term) -> Result<u64, NoMemory>
     ensures { IfOk result (λ n. n ≡ length (run t.now)) }
 {
     match t {
@@ -24,7 +24,7 @@ fn run_length(t: &Term) -> Result<u64, NoMemory>
 }
 
 /// The constant applied to the variables of `count` binders, the outermost first.
-fn applied(alloc: Global, k: u64, count: u64) -> Result<Term, NoMemory>
+pub(crate) fn applied(alloc: Global, k: u64, count: u64) -> Result<Term, NoMemory>
     ensures { IfOk result (λ r. r ≡ applied_to_all (konst.Aux k) count) }
 {
     let mut term = Term::Con(Konst::Aux(k));
@@ -60,7 +60,8 @@ fn equated(alloc: Global, t: &Term, ty: &Ty, left: Term) -> Result<Term, NoMemor
     }
 }
 
-/// The equation of an auxiliary constant.
+/// The equation of an auxiliary constant of this number: applied to a variable for each lambda that its closed term begins
+/// with, it equals what stands behind these.
 pub fn equation(alloc: Global, k: u64, entry: &Aux) -> Result<Term, NoMemory>
     ensures { IfOk result (λ r. r ≡ equation_of k entry.now) }
 {

@@ -1,6 +1,9 @@
 ghost use Rattle.std.specs.Prelude.{◌≡◌, ℕ, List, ◌∷◌, [], ◌++◌, map, OnOk, IfOk};
-ghost use Rattle.lambda_lift.specs.Redexes.{spine as spine_of, redexes as redexes_of};
+ghost use Rattle.lambda_lift.specs.Equations.{run};
+ghost use Rattle.lambda_lift.specs.Redexes.{spine as spine_of, redexes as redexes_of, left_path as left_path_of, side_redexes};
 
+use crate::equation::{applied, run_length};
+use crate::table::Aux;
 use hol_terms::Term;
 use std::alloc::Global;
 use text_kit::{NoMemory, Rows};
@@ -79,4 +82,37 @@ pub fn redexes(alloc: Global, formula: &Term, body: &Term) -> Result<Rows<Rows<u
     let mut path = Rows::begin(alloc);
     put_redexes(alloc, &mut out, &mut path, formula, body)?;
     Ok(out)
+}
+
+/// Appends the path to the left side of the equation of a closed term, under a quantifier for each lambda that it begins with.
+fn put_left_path(path: &mut Rows<u8>, t: &Term) -> Result<(), NoMemory>
+    ensures { OnOk result (path.new ≡ path.old ++ left_path_of (run t.now)) }
+{
+    match t {
+        Term::Lam(_, b) => {
+            path.push(1)?;
+            path.push(2)?;
+            put_left_path(path, b.get())
+        }
+        _ => {
+            path.push(0)?;
+            path.push(1)
+        }
+    }
+}
+
+/// Appends the paths of the redexes that the equation of an auxiliary constant has on its left side, where the constant has become
+/// its closed term.
+pub fn put_side_redexes(
+    alloc: Global,
+    out: &mut Rows<Rows<u8>>,
+    number: u64,
+    entry: &Aux,
+) -> Result<(), NoMemory>
+    ensures { OnOk result (out.new ≡ out.old ++ side_redexes number entry.now) }
+{
+    let left = applied(alloc, number, run_length(&entry.closed)?)?;
+    let mut path = Rows::begin(alloc);
+    put_left_path(&mut path, &entry.closed)?;
+    put_spine(alloc, out, &mut path, &left)
 }
