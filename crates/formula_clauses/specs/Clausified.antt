@@ -4,6 +4,7 @@ use Rattle.hol_terms.specs.declared.sig.Sig.{Sig}
 use Rattle.hol_terms.specs.declared.term.Term.{Term}
 use Rattle.lambda_lift.specs.declared.table.Aux.{Aux}
 use Rattle.lambda_lift.specs.Lifting.{lifted}
+use Rattle.formula_clauses.specs.declared.clausifying.LiftedClauses.{LiftedClauses}
 use Rattle.formula_clauses.specs.declared.fault.ClauseFault.{ClauseFault}
 use Rattle.formula_clauses.specs.declared.fault.ClauseFault.TheVariants.{TooLarge, NoMemory}
 use Rattle.formula_clauses.specs.Walks.{Clauses}
@@ -18,3 +19,15 @@ abbrev pub Clausifies : Sig → List Aux → Term → Bool → Result Clauses Cl
 Clausifies sig old t goal (Ok cs) new = (fits sig t goal ≡ true) × IsClausified sig old t goal cs new
 Clausifies sig old t goal (Err TooLarge) new = (fits sig t goal ≡ false) × (new ≡ old)
 Clausifies sig old t goal (Err NoMemory) new = Unit {0}
+
+-- the lifted formula, and its clauses
+pub record IsLiftedClauses (sig : Sig) (old : List Aux) (t : Term) (goal : Bool) (r : LiftedClauses) (new : List Aux) : Type 0 where
+  pub body : r.lifted.body ≡ (lifted sig old t).body
+  pub equations : r.lifted.equations ≡ (lifted sig old t).equations
+  pub clauses : IsClausified sig old t goal r.clauses new
+
+-- the same with the lifted formula
+abbrev pub ClausifiesLifted : Sig → List Aux → Term → Bool → Result LiftedClauses ClauseFault → List Aux → Type 0
+ClausifiesLifted sig old t goal (Ok r) new = (fits sig t goal ≡ true) × IsLiftedClauses sig old t goal r new
+ClausifiesLifted sig old t goal (Err TooLarge) new = (fits sig t goal ≡ false) × (new ≡ old)
+ClausifiesLifted sig old t goal (Err NoMemory) new = Unit {0}

@@ -11,7 +11,7 @@ use crate::closing::{apply_to, close, closed_ty};
 use crate::fault::ClauseFault;
 use crate::scope::{Scope, put_in};
 use crate::sizes::left_by_expanded;
-use crate::variables::{Variable, variables};
+use crate::variables::{Variable, variables_in};
 use hol_formulas::Quantifier;
 use hol_terms::{Konst, Term, Ty, copy_ty};
 use kernel_rules::{apply, lambda, negation};
@@ -76,7 +76,7 @@ fn small_variables(
     let Some(left) = left_by_expanded(table, f, MOST_IN_PROPERTY) else {
         return Err(ClauseFault::TooLarge);
     };
-    let vs = variables(alloc, f)?;
+    let vs = variables_in(alloc, f)?;
     if vs.len() as u64 > left {
         return Err(ClauseFault::TooLarge);
     }
@@ -125,7 +125,7 @@ fn choose(
 ) -> Result<Opened, NoMemory>
     ensures { IfOk result (λ r. IsOpened (chosen_value ty.now f.now (progress next table.old)) r table.new) }
 {
-    let vs = variables(alloc, f)?;
+    let vs = variables_in(alloc, f)?;
     chosen(alloc, table, ty, f, &vs, next)
 }
 

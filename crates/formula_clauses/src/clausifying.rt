@@ -2,7 +2,7 @@ ghost use Rattle.std.specs.Prelude.{◌≡◌, IsTrue, IfOk};
 ghost use Rattle.hol_terms.specs.Formulas.{is_sentence};
 ghost use Rattle.formula_clauses.specs.Fits.{clausified};
 ghost use Rattle.formula_clauses.specs.inner.Measures.{outcome, progress};
-ghost use Rattle.formula_clauses.specs.Clausified.{IsClausified, Clausifies};
+ghost use Rattle.formula_clauses.specs.Clausified.{Clausifies, IsLiftedClauses, ClausifiesLifted};
 ghost use Rattle.formula_clauses.specs.inner.Lists.{Lists};
 
 use crate::fault::ClauseFault;
@@ -29,26 +29,53 @@ fn list_lifted(
     list(alloc, formula.get(), !goal, &Scope::Outside, 0, table)
 }
 
+/// A formula without its lambdas and its equations, and the clauses of both.
+#[derive(Drop)]
+pub struct LiftedClauses {
+    pub lifted: Lifted,
+    pub clauses: Clauses,
+}
+
 fn clauses_of(
     alloc: Global,
     sig: &Sig,
     table: &mut Table,
     formula: &Term,
     goal: bool,
-) -> Result<Clauses, NoMemory>
+) -> Result<LiftedClauses, NoMemory>
     requires { IsTrue (is_sentence sig.now formula.now) }
-    ensures { IfOk result (λ cs. IsClausified sig.now table.old formula.now goal cs table.new) }
+    ensures { IfOk result (λ r. IsLiftedClauses sig.now table.old formula.now goal r table.new) }
 {
     let lifted = lift(alloc, sig, table, formula)?;
     let listed = list_lifted(alloc, table, &lifted, goal)?;
-    Ok(listed.clauses)
+    Ok(LiftedClauses {
+        lifted,
+        clauses: listed.clauses,
+    })
 }
 
-/// The clauses of a formula that fits, as a fact or as a goal: those of its lifted form with the equations of the auxiliary
-/// constants, in order, over a table that the whole search has.
+/// The lifted form of a formula that fits, as a fact or as a goal, with its equations, and its clauses: those of the lifted form
+/// with the equations of the auxiliary constants, in order, over a table that the whole search has.
 ///
 /// `TooLarge` comes exactly where the formula doesn't fit, and then the table is as it was. Where memory is wanting the table
 /// may have grown by entries of this formula.
+pub fn clausify_lifted(
+    alloc: Global,
+    sig: &Sig,
+    table: &mut Table,
+    formula: &Term,
+    goal: bool,
+) -> Result<LiftedClauses, ClauseFault>
+    requires { IsTrue (is_sentence sig.now formula.now) }
+    ensures { ClausifiesLifted sig.now table.old formula.now goal result table.new }
+{
+    if !fits(alloc, sig, formula, goal)? {
+        return Err(ClauseFault::TooLarge);
+    }
+    Ok(clauses_of(alloc, sig, table, formula, goal)?)
+}
+
+/// The clauses of a formula that fits, as `clausify_lifted` gives them.
 pub fn clausify(
     alloc: Global,
     sig: &Sig,
@@ -59,8 +86,5 @@ pub fn clausify(
     requires { IsTrue (is_sentence sig.now formula.now) }
     ensures { Clausifies sig.now table.old formula.now goal result table.new }
 {
-    if !fits(alloc, sig, formula, goal)? {
-        return Err(ClauseFault::TooLarge);
-    }
-    Ok(clauses_of(alloc, sig, table, formula, goal)?)
+    Ok(clausify_lifted(alloc, sig, table, formula, goal)?.clauses)
 }

@@ -14,11 +14,13 @@ mod scope;
 mod sizes;
 mod variables;
 
-pub use clausifying::clausify;
+pub use clausifying::{LiftedClauses, clausify, clausify_lifted};
+pub use closing::{apply_to, close};
 pub use fault::ClauseFault;
 pub use fitting::fits;
 pub use hol_terms::TypedLiteral;
 pub use lists::{Clause, Clauses};
+pub use variables::{Variable, variables_in};
 
 #[cfg(test)]
 mod tests;

@@ -48,7 +48,7 @@ fn listed(alloc: Global, found: BTreeMap<u64, Ty>) -> Result<Rows<Variable>, NoM
 }
 
 /// The variables that occur in a term, ascending by number.
-pub fn variables(alloc: Global, t: &Term) -> Result<Rows<Variable>, NoMemory>
+pub fn variables_in(alloc: Global, t: &Term) -> Result<Rows<Variable>, NoMemory>
     ensures { IfOk result (λ vs. vs ≡ variables_of t.now) }
 {
     let mut found = BTreeMap::new(alloc);
