@@ -21,7 +21,7 @@ module _ (sig : Sig) where
       let body = type_abstracted sig v.0 v.1 fits.0 inner [] [] ∙ closed_typed vs t a fits.1 h in
       type-lam sig v.1 (abstracted v.0 v.1 inner) [] ∙ under_so sig.types v.1 (type_in sig (abstracted v.0 v.1 inner) (v.1 ∷ [])) (closed_ty vs a) body fits.0
 
-  applied_typed : (vs : List Variable) (f : Term) (a : Ty) → AllFit sig.types vs → type_in sig f [] ≡ Some (closed_ty vs a) → type_in sig (applied_to f vs) [] ≡ Some a
+  pub applied_typed : (vs : List Variable) (f : Term) (a : Ty) → AllFit sig.types vs → type_in sig f [] ≡ Some (closed_ty vs a) → type_in sig (applied_to f vs) [] ≡ Some a
   applied_typed [] f a fits h = h
   applied_typed (v ∷ vs) f a fits h =
       let x = free v.0 v.1 in

@@ -43,17 +43,17 @@ use Rattle.hol_clausify.proofs.Shadows.{Good, here}
 use Rattle.hol_clausify.proofs.Agreeing.{apart, moved, good_true, good_false, good_atom, good_not, good_two}
 
 -- ---- the property of a chosen value
-property_closed : (q : Quantifier) (a : Ty) (u : Term) → IsTrue (closed_under u 1) → IsTrue (is_closed (property q a u))
+pub property_closed : (q : Quantifier) (a : Ty) (u : Term) → IsTrue (closed_under u 1) → IsTrue (is_closed (property q a u))
 property_closed quantifiers.All a u h =
     let k = constant konst.Not in closed-lam a (neg u) 0 ∙ closed-app k u 1 ∙ and_true (closed_under k 1) (closed_under u 1) (closed-con konst.Not 1) h
 property_closed quantifiers.Ex a u h = closed-lam a u 0 ∙ h
 
-property_known : (n : ℕ) (q : Quantifier) (a : Ty) (u : Term) → IsTrue (aux_below n u) → IsTrue (aux_below n (property q a u))
+pub property_known : (n : ℕ) (q : Quantifier) (a : Ty) (u : Term) → IsTrue (aux_below n u) → IsTrue (aux_below n (property q a u))
 property_known n quantifiers.All a u h =
     let k = constant konst.Not in below-lam n a (neg u) ∙ below-app n k u ∙ and_true (aux_below n k) (aux_below n u) (below-con n konst.Not) h
 property_known n quantifiers.Ex a u h = below-lam n a u ∙ h
 
-property_numbered : (p : ℕ → Ty → Bool) (q : Quantifier) (a : Ty) (u : Term) → IsTrue (each_free p u) → IsTrue (each_free p (property q a u))
+pub property_numbered : (p : ℕ → Ty → Bool) (q : Quantifier) (a : Ty) (u : Term) → IsTrue (each_free p u) → IsTrue (each_free p (property q a u))
 property_numbered p quantifiers.All a u h = free-lam p a (neg u) ∙ free_app p (constant konst.Not) u (free-con p konst.Not) h
 property_numbered p quantifiers.Ex a u h = free-lam p a u ∙ h
 
@@ -64,34 +64,35 @@ property_expanded table quantifiers.All a u =
 property_expanded table quantifiers.Ex a u = expand_lam table a u
 
 -- ---- a quantifier opened
-abbrev opening : Bool → Ty → Term → Progress → Opened
+abbrev pub opening : Bool → Ty → Term → Progress → Opened
 opening c a f p = if c then next_variable a p else chosen_value a f p
 
 record Opens (types : List Ty) (e : List Term) (o : Opened) : Type 0 where
   more : List Ty
   stands : Stands (types ++ more) o.after (o.value ∷ e)
 
-open_universal : (types : List Ty) (e : List Term) (a : Ty) (p : Progress) → Stands types p e → Opens types e (next_variable a p)
-open_universal types e a p st =
+pub universal_stands : (types : List Ty) (e : List Term) (a : Ty) (p : Progress) → Stands types p e → Stands (types ++ a ∷ []) (next_variable a p).after (free p.next a ∷ e)
+universal_stands types e a p st =
     let v = free p.next a in
     let more = a ∷ [] in
     let n = length p.table in
     record {
-      more = more;
-      stands = record {
-        count = length-append types more ∙ ap (λ m. m + 1) st.count;
-        closed_table = st.closed_table;
-        bare_table = st.bare_table;
-        closed = each_first (λ t. IsTrue (is_closed t)) v e (closed-free p.next a 0) st.closed;
-        known = each_first (λ t. IsTrue (aux_below n t)) v e (below-free n p.next a) st.known;
-        numbered =
-            each_first (λ t. IsTrue (each_free (has_number (types ++ more)) t)) v e (subst (λ m. IsTrue (each_free (has_number (types ++ more)) (free m a))) st.count (next_numbered types a))
-            (λ i t h. more_numbered types more t (st.numbered i t h));
-      };
+      count = length-append types more ∙ ap (λ m. m + 1) st.count;
+      closed_table = st.closed_table;
+      bare_table = st.bare_table;
+      closed = each_first (λ t. IsTrue (is_closed t)) v e (closed-free p.next a 0) st.closed;
+      known = each_first (λ t. IsTrue (aux_below n t)) v e (below-free n p.next a) st.known;
+      numbered =
+          each_first (λ t. IsTrue (each_free (has_number (types ++ more)) t)) v e (subst (λ m. IsTrue (each_free (has_number (types ++ more)) (free m a))) st.count (next_numbered types a))
+          (λ i t h. more_numbered types more t (st.numbered i t h));
     }
 
-open_chosen : (types : List Ty) (e : List Term) (a : Ty) (f : Term) (p : Progress) → Stands types p e → IsTrue (is_closed f) → IsTrue (each_free (has_number types) f) → Opens types e (chosen_value a f p)
-open_chosen types e a f p st tight numbered =
+open_universal : (types : List Ty) (e : List Term) (a : Ty) (p : Progress) → Stands types p e → Opens types e (next_variable a p)
+open_universal types e a p st = record { more = a ∷ []; stands = universal_stands types e a p st }
+
+pub chosen_stands : (types : List Ty) (e : List Term) (a : Ty) (f : Term) (p : Progress) → Stands types p e → IsTrue (is_closed f) → IsTrue (each_free (has_number types) f) →
+    Stands types (chosen_value a f p).after (chosen_term p.table a f ∷ e)
+chosen_stands types e a f p st tight numbered =
     let new = with_choice p.table a f in
     let c = choice p.table a f in
     let ty = closed_ty (variables f) a in
@@ -99,23 +100,26 @@ open_chosen types e a f p st tight numbered =
     let v = chosen_term p.table a f in
     let longer = grows_longer p.table new (entry_grows p.table ty c) in
     record {
+      count = st.count;
+      closed_table = each_entry (λ x. IsTrue (is_closed x.closed)) p.table ty c st.closed_table alone.0;
+      bare_table = each_entry (λ x. IsTrue (var_free x.closed)) p.table ty c st.bare_table alone.1;
+      closed = each_first (λ t. IsTrue (is_closed t)) v e (chosen_closed p.table a f) st.closed;
+      known = each_first (λ t. IsTrue (aux_below (length new) t)) v e (chosen_known p.table a f) (λ i t h. below_longer (length p.table) (length new) longer t (st.known i t h));
+      numbered = each_first (λ t. IsTrue (each_free (has_number types) t)) v e (chosen_numbered types p.table a f numbered) st.numbered;
+    }
+
+open_chosen : (types : List Ty) (e : List Term) (a : Ty) (f : Term) (p : Progress) → Stands types p e → IsTrue (is_closed f) → IsTrue (each_free (has_number types) f) → Opens types e (chosen_value a f p)
+open_chosen types e a f p st tight numbered =
+    record {
       more = [];
-      stands = subst (λ ts. Stands ts (record { next = p.next; table = new }) (v ∷ e)) (sym (append-nil types))
-          (record {
-            count = st.count;
-            closed_table = each_entry (λ x. IsTrue (is_closed x.closed)) p.table ty c st.closed_table alone.0;
-            bare_table = each_entry (λ x. IsTrue (var_free x.closed)) p.table ty c st.bare_table alone.1;
-            closed = each_first (λ t. IsTrue (is_closed t)) v e (chosen_closed p.table a f) st.closed;
-            known = each_first (λ t. IsTrue (aux_below (length new) t)) v e (chosen_known p.table a f) (λ i t h. below_longer (length p.table) (length new) longer t (st.known i t h));
-            numbered = each_first (λ t. IsTrue (each_free (has_number types) t)) v e (chosen_numbered types p.table a f numbered) st.numbered;
-          });
+      stands = subst (λ ts. Stands ts (chosen_value a f p).after (chosen_term p.table a f ∷ e)) (sym (append-nil types)) (chosen_stands types e a f p st tight numbered);
     }
 
 open_stands : (c : Bool) (types : List Ty) (e : List Term) (a : Ty) (f : Term) (p : Progress) → Stands types p e → IsTrue (is_closed f) → IsTrue (each_free (has_number types) f) → Opens types e (opening c a f p)
 open_stands true types e a f p st tight numbered = open_universal types e a p st
 open_stands false types e a f p st tight numbered = open_chosen types e a f p st tight numbered
 
-opening_grows : (c : Bool) (a : Ty) (f : Term) (p : Progress) → Grows p.table (opening c a f p).after.table
+pub opening_grows : (c : Bool) (a : Ty) (f : Term) (p : Progress) → Grows p.table (opening c a f p).after.table
 opening_grows true a f p = grows_refl p.table
 opening_grows false a f p = entry_grows p.table (closed_ty (variables f) a) (choice p.table a f)
 
@@ -153,7 +157,7 @@ part_here table e v t closed all tight body =
     let more : length e + 1 ≡ length e + 1 + 0 = omega arith in
     sym (expand_put table closed v (put_in e t 1) 0) ∙ ap (expand table) (under_scope e v all tight t 0 (subst (λ d. IsTrue (closed_under t d)) more body))
 
-tail_stands : (types : List Ty) (p : Progress) (v : Term) (e : List Term) → Stands types p (v ∷ e) → Stands types p e
+pub tail_stands : (types : List Ty) (p : Progress) (v : Term) (e : List Term) → Stands types p (v ∷ e) → Stands types p e
 tail_stands types p v e st =
     record {
       count = st.count;

@@ -1,5 +1,5 @@
 -- The terms of a scope, and a value that is put in under a quantifier.
-use Rattle.std.proofs.Common.{◌≡◌, ℕ, suc, ◌+◌, ◌-◌, ◌<◌, nat_lt, if◌then◌else◌, IsTrue, List, ◌∷◌, length, slice_get, get_or, ap, subst, sym, ◌∙◌, arith, Some}
+use Rattle.std.proofs.Common.{◌≡◌, ℕ, suc, ◌+◌, ◌-◌, ◌<◌, Bool, true, false, nat_lt, if◌then◌else◌, IsTrue, List, [], ◌∷◌, length, slice_get, get_or, ap, subst, refl, sym, ◌∙◌, arith, Some}
 use Rattle.std.specs.Prelude.{unwrap_or}
 use Rattle.std.proofs.lemmas.Option.{slice_get-get_or}
 use Rattle.std.proofs.lemmas.Bool.Decides.{nat_tests}
@@ -93,3 +93,16 @@ module _ (e : List Term) (v : Term) (closed : AllClosed e) (value : IsTrue (is_c
   under_scope t =
       by_cases Under under_bound (λ n a k h. ap (λ z. put v z k) (put_in-free e n a (k + 1)) ∙ put-free v n a k ∙ sym (put_in-free (v ∷ e) n a k))
       (λ c k h. ap (λ z. put v z k) (put_in-con e c (k + 1)) ∙ put-con v c k ∙ sym (put_in-con (v ∷ e) c k)) under_app under_lam t
+
+-- ---- no terms
+none_put : (i d : ℕ) (c : Bool) → (if c then bound i else unwrap_or (slice_get [] (i - d)) (bound i)) ≡ bound i
+none_put i d true = refl
+none_put i d false = refl
+
+abbrev Stays : Term → Type 0
+Stays t = (d : ℕ) → put_in [] t d ≡ t
+
+pub put_in_none : (t : Term) → Stays t
+put_in_none =
+    by_cases Stays (λ i d. put_in-bound [] i d ∙ none_put i d (nat_lt i d)) (λ n a d. put_in-free [] n a d) (λ k d. put_in-con [] k d)
+    (λ f x hf hx d. put_in-app [] f x d ∙ (λ i. apply (hf d i) (hx d i))) (λ a b hb d. put_in-lam [] a b d ∙ ap (lambda a) (hb (d + 1)))

@@ -1,5 +1,5 @@
 -- Clauses with their theorems.
-use Rattle.std.specs.Prelude.{◌≡◌, ℕ, Bool, true, false, List, [], ◌∷◌, ◌++◌, map, All, Result, Ok, Err}
+use Rattle.std.specs.Prelude.{◌≡◌, ℕ, Bool, true, false, List, [], ◌∷◌, ◌++◌, map, Result, Ok, Err}
 use Rattle.std.specs.FinSet as set
 use Rattle.hol_terms.specs.declared.term.Term.{Term}
 use Rattle.hyp_sets.specs.Sets.{TermSet, only, Among}
@@ -18,6 +18,7 @@ use Rattle.formula_clauses.specs.Walks.{Clauses}
 use Rattle.formula_clauses.specs.Fits.{fits}
 use Rattle.formula_clauses.specs.Clausified.{IsClausified}
 use Rattle.hol_clausify.specs.declared.source.Source.{Source}
+use Rattle.hol_clausify.specs.Typed.{IsTypedClause}
 
 -- the literal as the kernel has it: its auxiliary constants expanded
 abbrev pub meaning : List Aux → TypedLiteral → TypedLiteral
@@ -33,11 +34,13 @@ abbrev pub literals_of : List Source → Clauses
 literals_of ss = map (λ s. s.literals) ss
 
 -- the sources of the formula `t`, which fits: its clauses over the table `old`, in order, each with its theorem over the table behind
--- them, whose entries stand alone
+-- them, which is the old one with more entries, and whose entries stand alone; the clauses may be encoded over it
 pub record AreSources (goal : Bool) (base : TermSet) (t : Term) (old : List Aux) (log : Logged) (ss : List Source) (new : List Aux) : Type 0 where
   pub fitting : fits log.env.sig t goal ≡ true
   pub clauses : IsClausified log.env.sig old t goal (literals_of ss) new
-  pub sources : All (IsSource log base new) ss
+  pub sources : Each (IsSource log base new) ss
+  pub typed : Each (IsTypedClause log.env.sig new) (literals_of ss)
+  pub grown : (more : List Aux) × (new ≡ old ++ more)
   pub alone : Each (StandsAlone log.env.sig) new
 
 -- `TooLarge` comes exactly where the formula doesn't fit, and changes nothing
