@@ -1,10 +1,11 @@
 -- The clauses of a problem's statements.
-use Rattle.std.specs.Prelude.{◌≡◌, ℕ, ◌+◌, Bool, true, false, not, ◌&&◌, nat_le, List, [], ◌∷◌, ◌++◌, map, Result, Ok, Err}
+use Rattle.std.specs.Prelude.{◌≡◌, ℕ, ◌+◌, Bool, true, false, not, ◌&&◌, nat_le, List, [], ◌∷◌, ◌++◌, map, length, Result, Ok, Err}
 use Rattle.std.specs.List.{list_all}
 use Rattle.fo_terms.specs.declared.formula.FoFormula.{FoFormula}
 use Rattle.fo_terms.specs.Substitution.{var}
-use Rattle.fol_cnf.specs.declared.statements.Claim.{Claim}
-use Rattle.fol_cnf.specs.declared.statements.NamedClause.{NamedClause}
+use Rattle.tptp_syntax.specs.declared.problem.Statement.{Statement}
+use Rattle.tptp_syntax.specs.declared.problem.Problem.{Problem}
+use Rattle.fol_cnf.specs.declared.named_clause.NamedClause.{NamedClause}
 use Rattle.fol_cnf.specs.declared.fault.CnfFault.{CnfFault}
 use Rattle.fol_cnf.specs.declared.fault.CnfFault.TheVariants.{TooLarge, NoMemory}
 use Rattle.fol_cnf.specs.Walks.{Clauses, Walked, walked}
@@ -18,20 +19,28 @@ clausified f conjecture k = walked f (not conjecture) var (record { variable = 0
 abbrev pub fits : FoFormula → Bool → Bool
 fits f conjecture = nat_le (meetings f) 1024 && (clausified f conjecture 0).few
 
-abbrev pub claim_fits : Claim → Bool
-claim_fits c = fits c.formula.now c.conjecture
+abbrev pub statement_fits : Statement → Bool
+statement_fits s = fits s.formula s.conjecture
 
 -- clauses with the number of their statement
 abbrev pub named : ℕ → Clauses → List NamedClause
 named n cs = map (λ c. record { clause = record { literals = c }; statement = n }) cs
 
 -- the clauses of statements from number `n` on, whose new symbols begin with `k`
-abbrev pub all_clauses : ℕ → ℕ → List Claim → List NamedClause
+abbrev pub all_clauses : ℕ → ℕ → List Statement → List NamedClause
 all_clauses n k [] = []
-all_clauses n k (c ∷ cs) = let w = clausified c.formula.now c.conjecture k in named n w.clauses ++ all_clauses (n + 1) w.after.symbol cs
+all_clauses n k (s ∷ ss) = let w = clausified s.formula s.conjecture k in named n w.clauses ++ all_clauses (n + 1) w.after.symbol ss
+
+-- every statement has few enough clauses
+abbrev pub all_fit : Problem → Bool
+all_fit p = list_all statement_fits p.statements
+
+-- the clauses of a problem, whose new symbols stand behind its own
+abbrev pub clauses_of : Problem → List NamedClause
+clauses_of p = all_clauses 0 (length p.names) p.statements
 
 -- all clauses in order where each statement fits; `TooLarge` where one doesn't
-abbrev pub Clausifies : ℕ → List Claim → Result (List NamedClause) CnfFault → Type 0
-Clausifies k claims (Ok cs) = (list_all claim_fits claims ≡ true) × (cs ≡ all_clauses 0 k claims)
-Clausifies k claims (Err TooLarge) = list_all claim_fits claims ≡ false
-Clausifies k claims (Err NoMemory) = Unit {0}
+abbrev pub Clausifies : Problem → Result (List NamedClause) CnfFault → Type 0
+Clausifies p (Ok cs) = (all_fit p ≡ true) × (cs ≡ clauses_of p)
+Clausifies p (Err TooLarge) = all_fit p ≡ false
+Clausifies p (Err NoMemory) = Unit {0}

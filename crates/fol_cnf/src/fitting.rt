@@ -4,11 +4,11 @@ ghost use Rattle.fol_cnf.specs.declared.progress.Progress.{Progress as Numbers};
 ghost use Rattle.fol_cnf.specs.Scopes.{Scope};
 ghost use Rattle.fol_cnf.specs.Walks.{walked};
 ghost use Rattle.fol_cnf.specs.Meetings.{meetings};
-ghost use Rattle.fol_cnf.specs.Clausified.{fits as fits_as, claim_fits};
+ghost use Rattle.fol_cnf.specs.Clausified.{fits as fits_as, statement_fits};
 
 use crate::counting::count;
-use crate::statements::Claim;
 use fo_terms::FoFormula;
+use tptp_syntax::Statement;
 
 /// The most times that a place of a formula is met.
 const MOST_MEETINGS: u64 = 1_024;
@@ -53,11 +53,11 @@ fn fits(f: &FoFormula, conjecture: bool) -> bool
 }
 
 /// Whether no statement is too large.
-pub fn all_fit(claims: &[Claim]) -> bool
-    ensures { result ≡ list_all claim_fits claims.now }
+pub fn all_fit(statements: &[Statement]) -> bool
+    ensures { result ≡ list_all statement_fits statements.now }
 {
-    for c in claims {
-        if !fits(c.formula, c.conjecture) {
+    for s in statements {
+        if !fits(&s.formula, s.conjecture) {
             return false;
         }
     }

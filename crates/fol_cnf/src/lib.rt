@@ -2,19 +2,20 @@
 #![tactic(auto)]
 
 mod counting;
+mod depth;
 mod fault;
 mod fitting;
 mod lists;
 mod making;
+mod named_clause;
 mod progress;
 mod scope;
-mod statements;
 mod variables;
 mod walking;
 
 pub use fault::CnfFault;
-pub use making::clauses_of;
-pub use statements::{Claim, NamedClause};
+pub use making::cnf;
+pub use named_clause::NamedClause;
 
 #[cfg(test)]
 mod tests;

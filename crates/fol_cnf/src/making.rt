@@ -2,16 +2,18 @@ ghost use Rattle.std.specs.Prelude.{◌≡◌, ◌++◌, IfOk, OnOk};
 ghost use Rattle.fol_cnf.specs.Clausified.{clausified, named, all_clauses, Clausifies};
 ghost use Rattle.fol_cnf.specs.inner.Listings.{Lists};
 
+use crate::depth::are_shallow;
 use crate::fault::CnfFault;
 use crate::fitting::all_fit;
 use crate::lists::Clauses;
+use crate::named_clause::NamedClause;
 use crate::progress::Progress;
 use crate::scope::Scope;
-use crate::statements::{Claim, NamedClause};
 use crate::walking::{Listed, list};
 use fo_terms::{Clause, FoFormula};
 use std::alloc::Global;
 use text_kit::{NoMemory, Rows};
+use tptp_syntax::{Problem, Statement};
 
 /// The clauses of a statement whose new symbols begin with this number.
 fn list_statement(
@@ -43,14 +45,18 @@ fn put_named(out: &mut Rows<NamedClause>, clauses: Clauses, statement: u32) -> R
 }
 
 /// The clauses of all statements, in order.
-fn make_all(alloc: Global, claims: &[Claim], symbols: u64) -> Result<Rows<NamedClause>, NoMemory>
-    ensures { IfOk result (λ cs. cs ≡ all_clauses 0 symbols claims.now) }
+fn make_all(
+    alloc: Global,
+    statements: &[Statement],
+    symbols: u64,
+) -> Result<Rows<NamedClause>, NoMemory>
+    ensures { IfOk result (λ cs. cs ≡ all_clauses 0 symbols statements.now) }
 {
     let mut out = Rows::begin(alloc);
     let mut statement = 0u32;
     let mut next = symbols;
-    for c in claims {
-        let listed = list_statement(alloc, c.formula, c.conjecture, next)?;
+    for s in statements {
+        let listed = list_statement(alloc, &s.formula, s.conjecture, next)?;
         put_named(&mut out, listed.clauses, statement)?;
         next = listed.after.symbol;
         match statement.checked_add(1) {
@@ -61,27 +67,28 @@ fn make_all(alloc: Global, claims: &[Claim], symbols: u64) -> Result<Rows<NamedC
     Ok(out)
 }
 
-/// The clauses of statements, one after another in their order, each with its statement's number.
+/// The clauses of a problem's statements, one after another in their order, each with its statement's number.
 ///
-/// A conjecture is negated. The variables of each statement's clauses are numbered from 0 in the order of the walk over its formula;
+/// The conjecture is negated. The variables of each statement's clauses are numbered from 0 in the order of the walk over its formula;
 /// a chosen value is a new symbol, applied to the variables that occur in the quantified formula, ascending. New symbols are numbered
-/// from `symbols` on through all statements; the formulas' own are to be below. Every formula is to be closed: a free variable stands
+/// behind the problem's own through all statements. Every formula is to be closed, as those that are read are: a free variable stands
 /// for itself, and isn't told from those that the walk numbers.
 ///
 /// `TooLarge` comes exactly where a statement has above 1,024 clauses, a list made on the way has, or the walk meets one place of its
-/// formula more than 1,024 times. All of it is counted before a clause is made. The walks recurse once a level of the formula. In
-/// a test 3,000 levels of `~` held, and with 10,000 the program ran out of stack.
+/// formula more than 1,024 times. All of it is counted before a clause is made. The walks recurse once a level of the
+/// formula; one with more than 4,400 levels is want of memory.
 ///
 /// The method is the distribution by cases of Nonnengart and Weidenbach, "Computing small clause normal forms" (2001), without renaming.
-pub fn clauses_of(
-    alloc: Global,
-    claims: &[Claim],
-    symbols: u64,
-) -> Result<Rows<NamedClause>, CnfFault>
-    ensures { Clausifies symbols claims.now result }
+pub fn cnf(alloc: Global, problem: &Problem) -> Result<Rows<NamedClause>, CnfFault>
+    ensures { Clausifies problem.now result }
 {
-    if !all_fit(claims) {
+    let statements = problem.statements.as_slice();
+    if !all_fit(statements) {
         return Err(CnfFault::TooLarge);
     }
-    Ok(make_all(alloc, claims, symbols)?)
+    if !are_shallow(statements) {
+        return Err(CnfFault::NoMemory);
+    }
+    let symbols = problem.names.len() as u64;
+    Ok(make_all(alloc, statements, symbols)?)
 }

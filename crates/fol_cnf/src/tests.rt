@@ -1,8 +1,9 @@
-use crate::{Claim, CnfFault, NamedClause, clauses_of};
+use crate::{CnfFault, NamedClause, cnf};
 use fo_terms::{Atom, FoFormula, FoTerm, Literal};
 use std::alloc::Global;
 use std::test::Fail;
-use text_kit::{NoMemory, Rows, Shared};
+use text_kit::{Bytes, NoMemory, Rows, Shared};
+use tptp_syntax::{Problem, Statement};
 
 /// The symbols p and q, r of two arguments, and the first new one.
 const P: u64 = 0;
@@ -36,14 +37,23 @@ fn constant(alloc: Global, symbol: u64) -> FoFormula {
     FoFormula::Atom(Atom::Holds(FoTerm::Fun(symbol, Rows::begin(alloc))))
 }
 
-/// The clauses of one statement whose new symbols are behind r.
-fn clauses(alloc: Global, f: &FoFormula, conjecture: bool) -> Result<Rows<NamedClause>, CnfFault> {
-    let mut claims = Rows::begin(alloc);
-    claims.push(Claim {
+/// The clauses of one statement over p, q and r.
+fn clauses(
+    alloc: Global,
+    formula: FoFormula,
+    conjecture: bool,
+) -> Result<Rows<NamedClause>, CnfFault> {
+    let mut names = Rows::begin(alloc);
+    names.push(Bytes::from_slice(alloc, b"p")?)?;
+    names.push(Bytes::from_slice(alloc, b"q")?)?;
+    names.push(Bytes::from_slice(alloc, b"r")?)?;
+    let mut statements = Rows::begin(alloc);
+    statements.push(Statement {
+        name: Bytes::from_slice(alloc, b"s")?,
         conjecture,
-        formula: f,
+        formula,
     })?;
-    clauses_of(alloc, claims.as_slice(), NEW)
+    cnf(alloc, &Problem { names, statements })
 }
 
 /// A digit for a literal of a constant: p is 1, its negation 2, q 3, its negation 4.
@@ -83,17 +93,18 @@ fn has_digits(literals: &[Literal], digits: &[u64]) -> bool {
     true
 }
 
-/// Whether the formula has these clauses with the two signs.
+/// Whether the formula has these clauses with the two signs. It is given twice.
 fn has(
     alloc: Global,
     f: Result<FoFormula, NoMemory>,
+    again: Result<FoFormula, NoMemory>,
     positive: &[&[u64]],
     negative: &[&[u64]],
 ) -> bool {
-    match f {
-        Ok(f) => are(clauses(alloc, &f, false), positive)
-            && are(clauses(alloc, &f, true), negative),
-        Err(_) => false,
+    match (f, again) {
+        (Ok(f), Ok(again)) => are(clauses(alloc, f, false), positive)
+            && are(clauses(alloc, again, true), negative),
+        _ => false,
     }
 }
 
@@ -112,6 +123,7 @@ fn connectives_give_clauses_by_cases(rt: HostRuntime) -> Result<(), Fail> {
         has(
             alloc,
             of_p_and_q(alloc, Connective::And),
+            of_p_and_q(alloc, Connective::And),
             &[&[1], &[3]],
             &[&[2, 4]]
         )
@@ -119,6 +131,7 @@ fn connectives_give_clauses_by_cases(rt: HostRuntime) -> Result<(), Fail> {
     assert!(rt;
         has(
             alloc,
+            of_p_and_q(alloc, Connective::Or),
             of_p_and_q(alloc, Connective::Or),
             &[&[1, 3]],
             &[&[2], &[4]]
@@ -128,6 +141,7 @@ fn connectives_give_clauses_by_cases(rt: HostRuntime) -> Result<(), Fail> {
         has(
             alloc,
             of_p_and_q(alloc, Connective::Imp),
+            of_p_and_q(alloc, Connective::Imp),
             &[&[2, 3]],
             &[&[1], &[4]]
         )
@@ -136,13 +150,22 @@ fn connectives_give_clauses_by_cases(rt: HostRuntime) -> Result<(), Fail> {
         has(
             alloc,
             of_p_and_q(alloc, Connective::Iff),
+            of_p_and_q(alloc, Connective::Iff),
             &[&[2, 3], &[1, 4]],
             &[&[1, 3], &[2, 4]]
         )
     );
-    assert!(rt; has(alloc, not_p(alloc), &[&[2]], &[&[1]]));
-    assert!(rt; has(alloc, Ok(FoFormula::True), &[], &[&[]]));
-    assert!(rt; has(alloc, Ok(FoFormula::False), &[&[]], &[]));
+    assert!(rt; has(alloc, not_p(alloc), not_p(alloc), &[&[2]], &[&[1]]));
+    assert!(rt; has(alloc, Ok(FoFormula::True), Ok(FoFormula::True), &[], &[&[]]));
+    assert!(rt;
+        has(
+            alloc,
+            Ok(FoFormula::False),
+            Ok(FoFormula::False),
+            &[&[]],
+            &[]
+        )
+    );
     Ok(())
 }
 
@@ -187,11 +210,10 @@ fn is_unit(made: Result<Rows<NamedClause>, CnfFault>, positive: bool, t: &FoTerm
 #[test]
 fn chosen_values_are_new_symbols(rt: HostRuntime) -> Result<(), Fail> {
     let alloc = rt.alloc();
-    let f = each_has_one(alloc)?;
     let fact = related(alloc, FoTerm::Var(0), chosen(alloc, true)?)?;
-    assert!(rt; is_unit(clauses(alloc, &f, false), true, &fact));
+    assert!(rt; is_unit(clauses(alloc, each_has_one(alloc)?, false), true, &fact));
     let goal = related(alloc, chosen(alloc, false)?, FoTerm::Var(0))?;
-    assert!(rt; is_unit(clauses(alloc, &f, true), false, &goal));
+    assert!(rt; is_unit(clauses(alloc, each_has_one(alloc)?, true), false, &goal));
     Ok(())
 }
 
@@ -204,6 +226,11 @@ fn many(alloc: Global, times: u32) -> Result<FoFormula, NoMemory> {
     Ok(all)
 }
 
+/// A disjunction of two conjunctions, with 1,024 clauses.
+fn product(alloc: Global) -> Result<FoFormula, NoMemory> {
+    two(alloc, Connective::Or, many(alloc, 32)?, many(alloc, 32)?)
+}
+
 fn number(made: Result<Rows<NamedClause>, CnfFault>) -> Option<usize> {
     match made {
         Ok(cs) => Some(cs.len()),
@@ -214,9 +241,8 @@ fn number(made: Result<Rows<NamedClause>, CnfFault>) -> Option<usize> {
 #[test]
 fn a_statement_has_at_most_1024_clauses(rt: HostRuntime) -> Result<(), Fail> {
     let alloc = rt.alloc();
-    let f = two(alloc, Connective::Or, many(alloc, 32)?, many(alloc, 32)?)?;
-    assert!(rt; number(clauses(alloc, &f, false)) == Some(1_024));
-    let more = two(alloc, Connective::And, f, constant(alloc, Q))?;
-    assert!(rt; number(clauses(alloc, &more, false)).is_none());
+    assert!(rt; number(clauses(alloc, product(alloc)?, false)) == Some(1_024));
+    let more = two(alloc, Connective::And, product(alloc)?, constant(alloc, Q))?;
+    assert!(rt; number(clauses(alloc, more, false)).is_none());
     Ok(())
 }
