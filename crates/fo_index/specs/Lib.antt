@@ -1,0 +1,3 @@
+pub mod Fronts
+pub mod Candidates
+pub mod inner

@@ -1,0 +1,4 @@
+pub mod Gathered
+pub mod Collected
+pub mod Numbered
+pub mod Shelved
