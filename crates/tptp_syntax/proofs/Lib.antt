@@ -1,0 +1,13 @@
+pub mod Closing
+pub mod Scopes
+pub mod WordLists
+pub mod Cutting
+pub mod Runs
+pub mod CompleteTerms
+pub mod CompleteFormulas
+pub mod CompleteLists
+pub mod Come
+pub mod Keeps
+pub mod Begins
+pub mod Going
+pub mod Answers
