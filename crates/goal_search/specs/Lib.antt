@@ -1,0 +1,4 @@
+pub mod Fitting
+pub mod Inputs
+pub mod Encoded
+pub mod Found
