@@ -1,0 +1,5 @@
+pub mod SignsHold
+pub mod SignsOver
+pub mod Sides
+pub mod Atoms
+pub mod Encodings
