@@ -1,0 +1,4 @@
+pub mod Finding
+pub mod Lookups
+pub mod Tasks
+pub mod Outcomes
