@@ -1,0 +1,6 @@
+pub mod Marks
+pub mod Citing
+pub mod Places
+pub mod NameSets
+pub mod FreeNumbers
+pub mod Separating

@@ -1,0 +1,6 @@
+pub mod Names
+pub mod Terms
+pub mod Formulas
+pub mod Used
+pub mod Lines
+pub mod inner
