@@ -1,0 +1,5 @@
+pub mod Texts
+pub mod Derivations
+pub mod Proving
+pub mod Replies
+pub mod inner
