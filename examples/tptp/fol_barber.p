@@ -1,0 +1,3 @@
+% status: Unsatisfiable
+% uses: f_barber
+fof(f_barber, axiom, ? [B] : ! [X] : (shaves(B, X) <=> ~ shaves(X, X))).

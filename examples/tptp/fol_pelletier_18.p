@@ -1,0 +1,3 @@
+% status: Theorem
+% uses: goal
+fof(goal, conjecture, ? [Y] : ! [X] : (f(Y) => f(X))).

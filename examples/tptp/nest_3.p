@@ -1,0 +1,4 @@
+% status: Theorem
+% uses: f_1 goal
+fof(f_1, axiom, ! [X0] : ? [X1] : ! [X2] : r(X0, X1, X2)).
+fof(goal, conjecture, ! [X0] : ? [X1] : ! [X2] : r(X0, X1, X2)).

@@ -1,0 +1,3 @@
+% status: GaveUp
+fof(f_p, axiom, p).
+fof(goal, conjecture, q).
