@@ -22,7 +22,7 @@ use Rattle.formula_clauses.specs.Fits.{fits}
 use Rattle.sledge_engine.specs.Choice.{is_named, visible_facts}
 use Rattle.slot_work.specs.Visible.{places_from, visible, fact_fits, goal_fits, signature}
 use Rattle.sledge_engine.specs.inner.Visible.{IsSeen, fits_at}
-use Rattle.sledge_engine.proofs.Few.{few_seen}
+use Rattle.slot_work.proofs.Few.{few_seen}
 
 -- ---- numbers
 

@@ -1,5 +1,4 @@
 mod Fetched
-mod Few
 mod Fitted
 mod InRange
 mod Items

@@ -3,7 +3,7 @@ use Rattle.std.proofs.lemmas.List.{length-map}
 use Rattle.sledge_engine.specs.Choice.{chosen, has_name}
 use Rattle.slot_work.specs.Visible.{places_from}
 use Rattle.sledge_engine.specs.inner.Asked.{said}
-use Rattle.sledge_engine.proofs.Few.{few_seen}
+use Rattle.slot_work.proofs.Few.{few_seen}
 use Rattle.sledge_engine.proofs.metis.answer_visible.Goals as goal
 
 pub choose-requires : goal.choose-requires

@@ -3,7 +3,7 @@ use Rattle.std.specs.Option.{option_map_or}
 use Rattle.hol_terms.specs.Formulas.{is_sentence}
 use Rattle.formula_clauses.specs.Fits.{fits}
 use Rattle.sledge_engine.specs.inner.Visible.{fits_at}
-use Rattle.sledge_engine.proofs.Few.{passes}
+use Rattle.slot_work.proofs.Few.{passes}
 use Rattle.sledge_engine.proofs.Replying.{if_ok_map}
 use Rattle.sledge_engine.proofs.visible.fits_as_fact.Goals as goal
 
