@@ -1,7 +1,7 @@
-ghost use Rattle.std.specs.Prelude.{◌≡◌, ◌+◌, ◌<◌, length, slice_get, Some};
+ghost use Rattle.std.specs.Prelude.{◌≡◌, ◌↔◌, ◌+◌, ◌<◌, ◌⊎◌, length, slice_get, IsTrue, Some};
 ghost use Rattle.fo_terms.specs.declared.term.FoTerm.{FoTerm};
 ghost use Rattle.fo_terms.specs.Weight.{size_of, size_of_all, capped};
-ghost use Rattle.fo_order.specs.KnuthBendix.{RankOf, RankOfFirst, OrderOf};
+ghost use Rattle.fo_order.specs.KnuthBendix.{Above, RankOf, RankOfFirst, OrderOf};
 
 use crate::counting::covered;
 use fo_terms::{FoTerm, weight_all};
@@ -122,4 +122,28 @@ pub fn kbo(s: &FoTerm, t: &FoTerm) -> Order
     ensures { OrderOf s.now t.now result }
 {
     confirmed(rank(s, s.weight(), t, t.weight()), s, t)
+}
+
+/// Whether the first term is less than the second by the same order. Variables are counted only where the rest allows it.
+pub fn is_less(s: &FoTerm, t: &FoTerm) -> bool
+    ensures { IsTrue result ↔ Above t.now s.now }
+{
+    match rank(s, s.weight(), t, t.weight()) {
+        Order::Less => covered(t, s),
+        Order::Equal => false,
+        Order::Greater => false,
+        Order::Unknown => false,
+    }
+}
+
+/// Whether the first term is less than the second, or the same.
+pub fn is_at_most(s: &FoTerm, t: &FoTerm) -> bool
+    ensures { IsTrue result ↔ ((s.now ≡ t.now) ⊎ Above t.now s.now) }
+{
+    match rank(s, s.weight(), t, t.weight()) {
+        Order::Less => covered(t, s),
+        Order::Equal => true,
+        Order::Greater => false,
+        Order::Unknown => false,
+    }
 }

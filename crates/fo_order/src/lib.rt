@@ -6,7 +6,7 @@ mod counting;
 mod laws;
 mod literals;
 
-pub use comparing::{Order, kbo};
+pub use comparing::{Order, is_at_most, is_less, kbo};
 pub use laws::order_is_strict;
 pub use literals::eligible;
 

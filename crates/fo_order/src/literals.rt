@@ -2,19 +2,8 @@ ghost use Rattle.std.specs.Prelude.{◌≡◌, ◌↔◌, ◌<◌, IsTrue, lengt
 ghost use Rattle.fo_order.specs.KnuthBendix.{Above};
 ghost use Rattle.fo_order.specs.Eligible.{IsBelowSome, IsBelow, IsEligible};
 
-use crate::comparing::{Order, kbo};
+use crate::comparing::is_less;
 use fo_terms::{Atom, Clause, FoTerm};
-
-fn is_less(s: &FoTerm, t: &FoTerm) -> bool
-    ensures { IsTrue result ↔ Above t.now s.now }
-{
-    match kbo(s, t) {
-        Order::Less => true,
-        Order::Equal => false,
-        Order::Greater => false,
-        Order::Unknown => false,
-    }
-}
 
 fn is_below_some(s: &FoTerm, atom: &Atom) -> bool
     ensures { IsTrue result ↔ IsBelowSome s.now atom.now }

@@ -1,12 +1,13 @@
 -- When terms are the same with bindings put through them, and what that settles.
 use Rattle.std.proofs.Common.{◌≡◌, ◌≢◌, ◌==◌, ◌↔◌, ℕ, zero, suc, ◌<◌, Bool, true, false, IsTrue, List, [], ◌∷◌, map, length, get_or, sym, ap, subst, ◌∙◌, arith}
 use Rattle.std.specs.Prelude.{All, Contains}
+use Rattle.std.proofs.lemmas.List.{length-map}
 use Rattle.fo_terms.specs.declared.term.FoTerm.{FoTerm}
 use Rattle.fo_terms.specs.Substitution.{var, fun, put, occurs_in}
 use Rattle.fo_terms.specs.Weight.{size_of}
 use Rattle.fo_terms.proofs.Heads.{fun_same, fun_no_var, var_same}
 use Rattle.fo_terms.proofs.Induction.{by_cases}
-use Rattle.fo_terms.proofs.Substitution.{equal_true, equal_from, put_var, size_var, size_fun}
+use Rattle.fo_terms.proofs.Substitution.{equal_true, equal_from, put_var, put_fun, size_var, size_fun}
 use Rattle.fo_unify.specs.declared.subst.Bind.{Bind}
 use Rattle.fo_unify.specs.declared.triangle.Found.TheVariants.{Done}
 use Rattle.fo_unify.specs.Unifier.{Equates}
@@ -49,6 +50,12 @@ module _ (bs : List Bind) (good : Good bs) (s t : FoTerm) where
       λ e. (let rest = args.0 e in put_to_fun bs good s f xs is ∙ (λ i. fun (heads i) (rest i)) ∙ sym (put_to_fun bs good t g ys it)),
       λ e. args.1 (parts_of e).1,
     )
+
+-- terms of one image have as many arguments
+pub heads_apart : (v : ℕ → FoTerm) (s t : FoTerm) (f g : ℕ) (xs ys : List FoTerm) → s ≡ fun f xs → t ≡ fun g ys → (length xs ≡ length ys → ⊥) → Equates v s t → ⊥
+heads_apart v s t f g xs ys is it other e =
+    let parts = fun_same f g (map (put v) xs) (map (put v) ys) (sym (put_fun v f xs) ∙ sym (ap (put v) is) ∙ e ∙ ap (put v) it ∙ put_fun v g ys) in
+    other (sym (length-map xs (put v)) ∙ ap length parts.1 ∙ length-map ys (put v))
 
 -- lists with one image have one at each place
 pub same_at : {X Y : Type 0} (f : X → Y) (xs ys : List X) (i : ℕ) (x y : X) → i < length xs → length xs ≡ length ys → x ≡ get_or xs i x → y ≡ get_or ys i y → map f xs ≡ map f ys → f x ≡ f y

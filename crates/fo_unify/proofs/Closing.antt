@@ -231,3 +231,7 @@ most_general es bs good keeps back =
       unifies = subst (λ u. Unifies u es) same (back (solution bs) (solution_solves var bs good));
       general = λ v unifies x. subst (λ u. v x ≡ put v (u x)) same (general v bs (keeps v unifies) x);
     }
+
+-- what the bindings stand for, by the solved form
+pub solution_is : (bs binds : List Bind) → Good bs → resolved bs ≡ binds → solution bs ≡ term_of binds
+solution_is bs binds good is = (λ i y. sym (resolved_is bs good y) i) ∙ ap term_of is

@@ -7,6 +7,7 @@ use Rattle.fo_terms.specs.Substitution.{var, fun, put, occurs_in}
 use Rattle.fo_unify.specs.declared.subst.Bind.{Bind}
 use Rattle.fo_unify.specs.declared.subst.Subst.{Subst}
 use Rattle.fo_unify.specs.Lookup.{term_of}
+use Rattle.fo_unify.specs.Unifier.{Unifies, IsMostGeneral}
 
 -- the substitution put through both sides of each equation
 abbrev pub put_sides : (ℕ → FoTerm) → List (FoTerm × FoTerm) → List (FoTerm × FoTerm)
@@ -35,3 +36,8 @@ pub data Unified : List (FoTerm × FoTerm) → List Bind → Type 0 where
 abbrev pub MadeByRules : List (FoTerm × FoTerm) → Option Subst → Type 0
 MadeByRules es (Some u) = Unified es u.binds
 MadeByRules es None = Unit {0}
+
+-- a most general unifier that was made by these rules, or there is no unifier
+abbrev pub MetBy : List (FoTerm × FoTerm) → Option (List Bind) → Type 0
+MetBy es (Some binds) = IsMostGeneral es binds × Unified es binds
+MetBy es None = (v : ℕ → FoTerm) → Unifies v es → ⊥

@@ -1,8 +1,5 @@
-use Rattle.std.proofs.Common.{◌≡◌, ◌∙◌, sym, ap, subst, rules}
+use Rattle.std.proofs.Common.{sym, subst, rules}
 use Rattle.fo_unify.specs.declared.triangle.Found.TheVariants.{Done, Clash, Binds}
-use Rattle.fo_unify.specs.Unifier.{IsMostGeneral}
-use Rattle.fo_unify.specs.Unified.{Unified}
-use Rattle.fo_unify.specs.inner.Triangle.{resolved}
 use Rattle.fo_unify.specs.Shown.{as_binds, shown}
 use Rattle.fo_unify.specs.inner.Leads.{Leads}
 use Rattle.fo_unify.proofs.Closing.{most_general}
@@ -14,22 +11,16 @@ pub returns-in-Clash : goal.returns-in-Clash
 returns-in-Clash c =
     let leads = subst (Leads (as_binds c.as_slice.result.now) (shown c.solving.work) (shown c.next.new.work)) c.in-Clash.is c.in_ok-next.ensures in
     let here = subst (λ b. Leads (as_binds b) (shown c.solving.work) (shown c.next.new.work) Clash) c.as_slice.ensures leads in
-    record {
-      answer = λ v u. (let known = c.solving.invariant.keeps v u in here v known.0 known.1);
-      rules = tt;
-    }
+    λ v u. (let known = c.solving.invariant.keeps v u in here v known.0 known.1)
 
 pub returns-in-Done : goal.returns-in-Done
 returns-in-Done c =
     let leads = subst (Leads (as_binds c.as_slice.result.now) (shown c.solving.work) (shown c.next.new.work)) c.in-Done.is c.in_ok-next.ensures in
     let here = subst (λ b. Leads (as_binds b) (shown c.solving.work) (shown c.next.new.work) Done) c.as_slice.ensures leads in
-    let form : c.in_ok-solved_form-in-Done.field-0 ≡ resolved (as_binds c.solving.binds) = c.in_ok-solved_form-in-Done.ensures ∙ ap (λ b. resolved (as_binds b)) c.as_slice-in-Done.ensures in
-    let inv = c.solving.invariant in
-    record {
-      answer = subst (IsMostGeneral (shown c.args.work)) (sym form)
-          (most_general (shown c.args.work) (as_binds c.solving.binds) inv.good (λ v u. (inv.keeps v u).0) (λ v solves. inv.back v solves (here.0 v solves)));
-      rules = subst (Unified (shown c.args.work)) (sym form) (reaches_end (shown c.args.work) (shown c.solving.work) (as_binds c.solving.binds) inv.good inv.reaches here.1);
-    }
+    let inv = c.solving.invariant in (
+      most_general (shown c.args.work) (as_binds c.solving.binds) inv.good (λ v u. (inv.keeps v u).0) (λ v solves. inv.back v solves (here.0 v solves)),
+      reaches_end (shown c.args.work) (shown c.solving.work) (as_binds c.solving.binds) inv.good inv.reaches here.1,
+    )
 
 pub solving-init : goal.solving-init
 solving-init c = record {

@@ -1,18 +1,8 @@
-use Rattle.std.proofs.Common.{◌≡◌, [], ◌∷◌, ◌++◌, ◌∙◌, ap, subst}
-use Rattle.fo_unify.specs.declared.triangle.Equation.{Equation}
-use Rattle.fo_unify.specs.Unifier.{UnifierOf}
-use Rattle.fo_unify.specs.Unified.{MadeByRules}
-use Rattle.fo_unify.specs.Shown.{shown}
+use Rattle.std.proofs.Common.{[], ◌∷◌}
 use Rattle.fo_unify.proofs.solving.unify.Goals as goal
 
 pub returns-clause-answer : goal.returns-clause-answer
-returns-clause-answer c =
-    let e : Equation = record { left = c.args.s; right = c.args.t } in
-    let pushed : shown c.push.new.self ≡ shown (e ∷ []) = ap shown (c.in_ok-push.ensures.ok ∙ ap (λ w. w ++ e ∷ []) c.begin-work.ensures) in
-    subst (λ es. UnifierOf es c.in_ok-unifier.unifier) pushed c.in_ok-unifier.ensures.answer
+returns-clause-answer c = c.in_ok-unifier.ensures.answer ((c.args.s.now, c.args.t.now) ∷ []) c.in_ok-met.ensures
 
 pub returns-clause-rules : goal.returns-clause-rules
-returns-clause-rules c =
-    let e : Equation = record { left = c.args.s; right = c.args.t } in
-    let pushed : shown c.push.new.self ≡ shown (e ∷ []) = ap shown (c.in_ok-push.ensures.ok ∙ ap (λ w. w ++ e ∷ []) c.begin-work.ensures) in
-    subst (λ es. MadeByRules es c.in_ok-unifier.unifier) pushed c.in_ok-unifier.ensures.rules
+returns-clause-rules c = c.in_ok-unifier.ensures.rules ((c.args.s.now, c.args.t.now) ∷ []) c.in_ok-met.ensures

@@ -1,0 +1,16 @@
+use Rattle.std.proofs.Common.{◌≡◌, [], ◌∷◌, ◌++◌, ◌∙◌, ap, subst, refl}
+use Rattle.fo_unify.specs.declared.triangle.Equation.{Equation}
+use Rattle.fo_unify.specs.Unified.{MetBy}
+use Rattle.fo_unify.specs.Shown.{shown}
+use Rattle.fo_unify.proofs.solving.meet_both.Goals as goal
+
+pub returns : goal.returns
+returns c =
+    let e : Equation = record { left = c.args.first.0; right = c.args.first.1 } in
+    let f : Equation = record { left = c.args.second.0; right = c.args.second.1 } in
+    let both : shown c.push-2.new.self ≡ shown (e ∷ f ∷ []) =
+    ap shown (c.in_ok-push-2.ensures.ok ∙ ap (λ w. w ++ f ∷ []) (c.in_ok-push.ensures.ok ∙ ap (λ w. w ++ e ∷ []) c.begin-work.ensures)) in
+    subst (λ es. MetBy es c.in_ok-met.met) both c.in_ok-met.ensures
+
+pub returns-then-heads_clash : goal.returns-then-heads_clash
+returns-then-heads_clash c = λ v unifies. c.if-heads_clash.ensures refl v unifies.0
