@@ -1,0 +1,6 @@
+use Rattle.std.proofs.Common.{◌≡◌, ◌==◌, drop}
+use Rattle.std.specs.List.{list_any}
+use Rattle.fo_cells.proofs.renumbering.is_noted.Given as goal
+
+abbrev pub invariant-loop-y : goal.invariant-loop-y
+invariant-loop-y l = list_any (λ y. y == l.x) (drop l.y-index l.noted) ≡ list_any (λ y. y == l.x) l.noted

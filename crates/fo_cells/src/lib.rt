@@ -1,0 +1,20 @@
+//! First-order terms and clauses as cells in reading order, which are compared, weighed and kept with hardly any allocation.
+#![tactic(auto)]
+
+mod cell;
+mod cells;
+mod flat;
+mod place;
+mod print;
+mod renumbering;
+mod trees;
+mod writing;
+
+pub use cell::{Cell, same_cells, term_len};
+pub use cells::Cells;
+pub use flat::FlatClause;
+pub use print::print_of;
+pub use writing::put_term;
+
+#[cfg(test)]
+mod tests;

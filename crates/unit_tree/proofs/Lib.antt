@@ -1,0 +1,9 @@
+pub mod Follows
+pub mod Going
+pub mod Matching
+pub mod Putting
+pub mod Rows
+pub mod Steps
+pub mod Units
+pub mod Ways
+pub mod Words
