@@ -1,22 +1,23 @@
 -- Answers on one clause.
-use Rattle.std.proofs.Common.{◌≡◌, ℕ, ◌<◌, Bool, true, false, List, [], ◌∷◌, ◌++◌, Option, Some, None, slice_get, refl, sym, ap, subst, ◌∙◌}
+use Rattle.std.proofs.Common.{◌≡◌, ℕ, ◌<◌, Bool, true, false, List, [], ◌∷◌, Option, Some, None, slice_get, refl, sym, ap, subst, ◌∙◌}
 use Rattle.fo_terms.specs.declared.term.FoTerm.{FoTerm}
 use Rattle.fo_terms.specs.declared.atom.Atom.{Atom}
-use Rattle.fo_terms.specs.declared.atom.Atom.TheVariants.{Holds, Eq}
+use Rattle.fo_terms.specs.declared.atom.Atom.TheVariants.{Eq}
 use Rattle.fo_terms.specs.declared.literal.Literal.{Literal}
 use Rattle.fo_terms.specs.declared.clause.Clause.{Clause}
-use Rattle.fo_unify.specs.declared.subst.Subst.{Subst}
+use Rattle.fo_unify.specs.declared.subst.Bind.{Bind}
 use Rattle.fo_unify.specs.Lookup.{term_of}
-use Rattle.fo_unify.specs.Unifier.{Unifies, UnifierOf, IsMostGeneral}
-use Rattle.fo_infer.specs.declared.made.Made.{Made}
+use Rattle.fo_unify.specs.Unifier.{Unifies}
+use Rattle.fo_unify.specs.Unified.{MetBy}
 use mathlib.Core.Bool.{beq, not}
-use Rattle.std.specs.List.{remove}
-use Rattle.fo_infer.specs.Inferences.{atom_equations, conclusion, Factors, Reflects, AloneGives, Alone, all_factor_rules, all_reflex_rules, alone_rules, Listed}
-use Rattle.fo_infer.specs.inner.Adding.{AtomsUnifierOf, Adds}
+use Rattle.fo_infer.specs.declared.made.Rule.TheVariants.{Factor, Reflex}
+use Rattle.fo_infer.specs.Inferences.{atom_equations, Factors, Reflects}
+use Rattle.fo_infer.specs.inner.Adding.{Answered, AtomsUnifierOf}
+use Rattle.fo_infer.specs.inner.Findings.{given_by}
 use Rattle.fo_infer.proofs.Resolvents.{some_same}
 
-pub atoms_answer : (a b : Atom) (es : List (FoTerm × FoTerm)) (o : Option Subst) → atom_equations a b ≡ Some es → UnifierOf es o → AtomsUnifierOf a b o
-atoms_answer a b es (Some u) is h = (es, is, h)
+pub atoms_answer : (a b : Atom) (es : List (FoTerm × FoTerm)) (o : Option (List Bind)) → atom_equations a b ≡ Some es → MetBy es o → AtomsUnifierOf a b o
+atoms_answer a b es (Some u) is h = (es, is, h.0)
 atoms_answer a b es None is h = λ fs other v u. h v (subst (Unifies v) (some_same fs es (sym other ∙ is)) u)
 
 -- an equation of this sign
@@ -42,20 +43,27 @@ signs_same true false e = cc
 signs_same false true e = cc
 signs_same false false e = refl
 
-pub factored : (p : Clause) (i j : ℕ) (first second : Literal) → slice_get p.literals i ≡ Some first → slice_get p.literals j ≡ Some second → i < j → not (beq first.positive second.positive) ≡ false
-    → (o : Option Subst) (u : Subst) → o ≡ Some u → AtomsUnifierOf first.atom second.atom o → (c : Clause) → c ≡ conclusion u.binds (remove p.literals j) → Factors p i j c
-factored p i j first second is it before signs o u found answer c gives =
-    let made : AtomsUnifierOf first.atom second.atom (Some u) = subst (AtomsUnifierOf first.atom second.atom) found answer in
-    record {
-      first = first;
-      second = second;
-      first_is = is;
-      second_is = it;
-      before = before;
-      signs = signs_same first.positive second.positive signs;
-      equations = made.0;
-      kinds = made.1;
-      binds = u.binds;
-      unifier = made.2;
-      gives = gives;
-    }
+pub factor_answer : (p : Clause) (i j : ℕ) (first second : Literal) → slice_get p.literals i ≡ Some first → slice_get p.literals j ≡ Some second → i < j → not (beq first.positive second.positive) ≡ false
+    → (o : Option (List Bind)) → AtomsUnifierOf first.atom second.atom o → Answered (Factors p i j) (given_by p [] (Factor i j) o)
+factor_answer p i j first second is it before signs (Some binds) made = record {
+  first = first;
+  second = second;
+  first_is = is;
+  second_is = it;
+  before = before;
+  signs = signs_same first.positive second.positive signs;
+  equations = made.0;
+  kinds = made.1;
+  binds = binds;
+  unifier = made.2;
+  gives = refl;
+}
+factor_answer p i j first second is it before signs None none = λ c made.
+    let one = some_same made.first first (sym made.first_is ∙ is) in
+    let two = some_same made.second second (sym made.second_is ∙ it) in
+    none made.equations (sym (λ k. atom_equations (one k).atom (two k).atom) ∙ made.kinds) (term_of made.binds) made.unifier.unifies
+
+pub reflect_answer : (p : Clause) (i : ℕ) (s t : FoTerm) → slice_get p.literals i ≡ Some (record { positive = false; atom = Eq s t }) → (o : Option (List Bind)) → MetBy ((s, t) ∷ []) o
+    → Answered (Reflects p i) (given_by p [] (Reflex i) o)
+reflect_answer p i s t is None none = no_reflection p i s t is none
+reflect_answer p i s t is (Some binds) met = record { s = s; t = t; literal_is = is; binds = binds; unifier = met.0; gives = refl }

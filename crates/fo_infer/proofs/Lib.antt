@@ -7,7 +7,9 @@ pub mod OneLists
 pub mod OrderKept
 pub mod Paramodulants
 pub mod Parting
+pub mod Placing
 pub mod Resolvents
 pub mod Rising
 pub mod SymbolMarks
 pub mod Unifiers
+pub mod Weights

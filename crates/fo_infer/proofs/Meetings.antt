@@ -1,5 +1,5 @@
 -- Clauses whose literals can't meet have no inferences.
-use Rattle.std.proofs.Common.{◌≡◌, ◌≢◌, ℕ, ◌+◌, ◌<◌, ◌≤◌, Bool, true, false, List, [], ◌∷◌, map, length, get_or, Option, Some, None, slice_get, option_map, zero, suc, refl, sym, ap, subst, ◌∙◌, arith, below_more}
+use Rattle.std.proofs.Common.{◌≡◌, ℕ, ◌+◌, ◌<◌, ◌≤◌, Bool, true, false, List, [], ◌∷◌, map, length, get_or, Option, Some, None, slice_get, option_map, zero, suc, refl, sym, ap, subst, ◌∙◌, arith, below_more}
 use Rattle.std.proofs.lemmas.List.{length-map}
 use Rattle.std.proofs.lemmas.Option.{get_or_from_slice_get, slice_get_within, slice_get-map}
 use Rattle.fo_terms.specs.declared.term.FoTerm.{FoTerm}
@@ -12,11 +12,10 @@ use Rattle.fo_terms.specs.Normal.{clause_variables}
 use Rattle.fo_terms.proofs.Heads.{fun_same}
 use Rattle.fo_terms.proofs.Substitution.{put_fun, put_put}
 use Rattle.fo_unify.specs.Lookup.{term_of}
-use Rattle.fo_infer.specs.declared.made.Made.{Made}
 use Rattle.fo_infer.specs.declared.made.Rule.{Rule}
 use Rattle.fo_infer.specs.declared.made.Rule.TheVariants.{Resolve, Para, Factor, Reflex}
-use Rattle.fo_infer.specs.Inferences.{Position, above_all, renamed_apart, Resolves, PairGives, Listed, done, skip}
-use Rattle.fo_infer.specs.inner.Meeting.{Meet, MeetsNone, NoneMeets, LacksEquations}
+use Rattle.fo_infer.specs.Inferences.{Position, above_all, Resolves, PairGives, Listed, done, skip}
+use Rattle.fo_infer.specs.inner.Meeting.{Meet, NoneMeets, LacksEquations}
 use Rattle.fo_infer.proofs.Resolvents.{some_same}
 
 -- ---- terms

@@ -1,5 +1,5 @@
 -- Laws of the search for a subsuming substitution.
-use Rattle.std.proofs.Common.{◌≡◌, ◌≢◌, ◌==◌, ℕ, zero, suc, ◌+◌, ◌<◌, ◌≤◌, Bool, true, false, IsTrue, List, [], ◌∷◌, ◌++◌, map, take, drop, length, get_or, refl, sym, ap, subst, ◌∙◌, arith}
+use Rattle.std.proofs.Common.{◌≡◌, ◌≢◌, ◌==◌, ℕ, zero, suc, ◌+◌, ◌<◌, ◌≤◌, Bool, true, false, IsTrue, List, [], ◌∷◌, length, get_or, refl, sym, ap, subst, ◌∙◌, arith}
 use Rattle.std.specs.Prelude.{Contains, All}
 use Rattle.std.proofs.lemmas.List.Elements.{All-cons, All-head, All-tail, All-nil}
 use Rattle.fo_terms.specs.declared.term.FoTerm.{FoTerm}
@@ -12,7 +12,7 @@ use Rattle.fo_infer.specs.Subsumption.{Subsumes}
 use Rattle.fo_terms.proofs.Substitution.{equal_true, equal_from}
 use Rattle.fo_unify.specs.declared.subst.Bind.{Bind}
 use Rattle.fo_unify.specs.Lookup.{term_of}
-use Rattle.fo_unify.specs.Match.{Unique, Fits, Matches}
+use Rattle.fo_unify.specs.Match.{Unique, Fits}
 use Rattle.fo_unify.proofs.MatchLaws.{unique_fits}
 use Rattle.fo_infer.specs.inner.Covering.{Narrows, Sends, Coverable, CoverableBy, Covers, CoversBy}
 

@@ -1,9 +1,8 @@
 -- Each rule gives one clause at most, so the list of inferences is one.
-use Rattle.std.proofs.Common.{◌≡◌, ℕ, Bool, true, false, List, [], ◌∷◌, ◌++◌, Option, Some, None, slice_get, refl, sym, ap, subst, ◌∙◌}
+use Rattle.std.proofs.Common.{◌≡◌, ℕ, Bool, true, false, List, [], ◌∷◌, ◌++◌, refl, sym, ap, subst, ◌∙◌}
 use Rattle.std.specs.Prelude.{slice_set}
 use Rattle.std.specs.List.{remove}
 use Rattle.fo_terms.specs.declared.term.FoTerm.{FoTerm}
-use Rattle.fo_terms.specs.declared.atom.Atom.TheVariants.{Holds, Eq}
 use Rattle.fo_terms.specs.declared.literal.Literal.{Literal}
 use Rattle.fo_terms.specs.declared.clause.Clause.{Clause}
 use Rattle.fo_unify.specs.declared.subst.Bind.{Bind}

@@ -1,5 +1,5 @@
 -- Renaming variables keeps the order of terms.
-use Rattle.std.proofs.Common.{◌≡◌, ℕ, ◌+◌, ◌<◌, ◌≤◌, Bool, true, false, ◌==◌, if◌then◌else◌, List, [], ◌∷◌, ◌++◌, map, sum, ◌⊎◌, inl, inr, refl, sym, ap, subst, ◌∙◌, arith}
+use Rattle.std.proofs.Common.{◌≡◌, ℕ, ◌+◌, ◌≤◌, Bool, true, false, ◌==◌, if◌then◌else◌, List, [], ◌∷◌, ◌++◌, map, sum, ◌⊎◌, inl, inr, refl, sym, ap, subst, ◌∙◌, arith}
 use Rattle.std.specs.List.{concat}
 use Rattle.fo_terms.specs.declared.term.FoTerm.{FoTerm, Fun}
 use Rattle.fo_terms.specs.declared.term.FoTerm.TheOpen.{FoTerm-F}
@@ -10,7 +10,7 @@ use Rattle.fo_terms.specs.Substitution.{var, fun, put}
 use Rattle.fo_terms.specs.Normal.{variables_of}
 use Rattle.fo_terms.proofs.Heads.{fun_same}
 use Rattle.fo_terms.proofs.Induction.{Each, by_cases}
-use Rattle.fo_terms.proofs.Substitution.{put_var, put_fun, put_put, size_var, size_fun, sum_cons, equal_true, equal_from}
+use Rattle.fo_terms.proofs.Substitution.{put_var, put_fun, put_put, size_var, size_fun, sum_cons, equal_from}
 use Rattle.fo_terms.proofs.Renaming.{each_left, each_right, put_fixing, variables_var, variables_fun, Undone, name, named, names_apart, variables_renamed}
 use Rattle.fo_order.specs.Counts.{count_of, count_step, Covers}
 use Rattle.fo_order.specs.KnuthBendix.{Above, Outranks, AboveFirst, above, heavier, later, first, here, next}

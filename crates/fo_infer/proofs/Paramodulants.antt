@@ -1,5 +1,5 @@
 -- What paramodulation gives at one place, and where it gives nothing.
-use Rattle.std.proofs.Common.{◌≡◌, ℕ, zero, suc, ◌+◌, ◌<◌, ◌≤◌, sum, Bool, true, false, IsTrue, List, [], ◌∷◌, ◌++◌, map, take, drop, length, get_or, Option, Some, None, slice_get, refl, sym, ap, subst, ◌∙◌, add-one, arith}
+use Rattle.std.proofs.Common.{◌≡◌, ◌↔◌, ◌⊎◌, inl, inr, not, ℕ, zero, suc, ◌+◌, ◌<◌, ◌≤◌, sum, Bool, true, false, IsTrue, List, [], ◌∷◌, ◌++◌, map, take, length, get_or, Option, Some, None, slice_get, refl, sym, ap, subst, ◌∙◌, arith}
 use Rattle.std.specs.Prelude.{slice_set, MatchBool, MatchOption, option_and_then}
 use Rattle.std.specs.List.{remove, flat_map}
 use Rattle.std.specs.Prelude.{sum_by}
@@ -8,7 +8,7 @@ use Rattle.fo_terms.specs.Weight.{size_of}
 use Rattle.fo_terms.proofs.Substitution.{size_fun, map_map}
 use Rattle.fo_terms.proofs.Induction.{Each}
 use Rattle.std.proofs.lemmas.List.{append_assoc, append-nil, map-append, length-append, length-map, length-take, take_more}
-use Rattle.fo_terms.specs.declared.term.FoTerm.{FoTerm, Var, Fun, out-FoTerm}
+use Rattle.fo_terms.specs.declared.term.FoTerm.{FoTerm, Var, Fun}
 use Rattle.fo_terms.specs.declared.term.FoTerm.TheOpen.{FoTerm-F}
 use Rattle.fo_terms.specs.declared.term.FoTerm.TheFolds.{fold-roll-FoTerm}
 use Rattle.fo_terms.specs.declared.term.FoTerm.TheVariants.{rolls-Var, rolls-Fun, outs-Fun}
@@ -20,9 +20,9 @@ use Rattle.fo_terms.specs.Substitution.{var, put, put_literal, put_literals}
 use Rattle.fo_unify.specs.declared.subst.Bind.{Bind}
 use Rattle.fo_unify.specs.Lookup.{term_of}
 use Rattle.fo_unify.specs.Unifier.{Unifies, IsMostGeneral}
-use Rattle.fo_order.specs.KnuthBendix.{Above}
+use Rattle.fo_order.specs.KnuthBendix.{Above, Outranks, heavier}
 use Rattle.fo_order.specs.Eligible.{IsEligible}
-use Rattle.fo_order.proofs.Ranks.{irr, asym}
+use Rattle.fo_order.proofs.Ranks.{irr_rank, asym_rank, outranks}
 use Rattle.fo_infer.specs.declared.source.Source.{Source}
 use Rattle.fo_terms.specs.Normal.{atom_terms, clause_variables}
 use Rattle.fo_infer.specs.declared.made.Made.{Made}
@@ -33,13 +33,24 @@ use Rattle.fo_infer.specs.inner.Adding.{Answered, entry, Adds}
 use Rattle.fo_infer.proofs.Listing.{adds_then, adds_one}
 use Rattle.fo_infer.specs.Inferences.{Position, above_all, renamed_apart, conclusion, sought, put_in, literal_replaced, Paramodulates, upto, option_paths, position_rules, direction_rules, para_rules}
 use Rattle.fo_infer.specs.inner.Places.{IsSource, NotBelow, rules_behind}
+use Rattle.fo_infer.specs.inner.Findings.{left_by, side_of, replaced_in}
 use Rattle.fo_infer.proofs.Resolvents.{some_same}
 use Rattle.fo_infer.proofs.Factorings.{sides_same, equating}
 use Rattle.fo_infer.proofs.Unifiers.{not_below_kept}
 
--- greater terms
-pub greater_not_below : (binds : List Bind) (s t left right : FoTerm) → left ≡ put (term_of binds) s → right ≡ put (term_of binds) t → Above left right → NotBelow binds s t
-greater_not_below binds s t left right is it greater = (λ e. irr greater (is ∙ e ∙ sym it), λ less. asym greater (subst (λ r. Above r left) (sym it) (subst (Above (put (term_of binds) t)) (sym is) less)))
+-- a heavier term, within a bound that machine numbers hold, isn't below
+pub heavier_not_below : (binds : List Bind) (s t : FoTerm) → size_of (put (term_of binds) t) < size_of (put (term_of binds) s) → size_of (put (term_of binds) t) ≤ 65535 → NotBelow binds s t
+heavier_not_below binds s t more within =
+    let rank : Outranks (put (term_of binds) s) (put (term_of binds) t) = heavier (omega arith) in
+    (λ e. irr_rank rank e, λ less. asym_rank rank (outranks less))
+
+-- what is neither the same nor less isn't below, and what isn't below is neither
+pub most_not_below : (binds : List Bind) (s t left right : FoTerm) → left ≡ put (term_of binds) s → right ≡ put (term_of binds) t → (b : Bool) → (IsTrue b ↔ ((left ≡ right) ⊎ Above right left))
+    → MatchBool (not b) (NotBelow binds s t) (NotBelow binds s t → ⊥)
+most_not_below binds s t left right is it true h =
+    λ apart. elim (h.0 refl) [ inl same ↦ apart.0 (sym is ∙ same ∙ it) | inr less ↦ apart.1 (subst (λ r. Above r (put (term_of binds) s)) it (subst (Above right) is less)) ]
+most_not_below binds s t left right is it false h =
+    (λ e. (let wrong = h.1 (inl (is ∙ e ∙ sym it)) in cc), λ less. (let wrong = h.1 (inr (subst (λ r. Above r left) (sym it) (subst (Above (put (term_of binds) t)) (sym is) less))) in cc))
 
 -- parts of a changed list, one behind another
 pub pushed_parts : (v : ℕ → FoTerm) (start first second third a one b ls : List Literal) (by : Literal) → first ≡ start ++ put_literals v a → second ≡ first ++ put_literals v one → third ≡ second ++ put_literals v b
@@ -110,6 +121,13 @@ module _ (position : Position) (from : Source) (source : IsSource from) (j : ℕ
     not_less = (subst (NotBelow binds (sought from.swapped source.a source.b)) source.put_in_is (subst (λ s. NotBelow binds s from.put_in.now) source.sought_is above)).1;
     gives = is ∙ (λ k. conclusion binds (remove from.p.now.literals from.i ++ slice_set (source.apart k) j (literal_replaced path (source.put_in_is k) into)));
   }
+
+-- the literals that are left, as the rule tells them
+pub left_para : (from : Source) (source : IsSource from) (j : ℕ) (into : Literal) (path : List ℕ) → slice_get from.apart.now j ≡ Some into → (binds : List Bind)
+    → conclusion binds (left_by from.p.now from.apart.now (Para from.i from.swapped j path)) ≡ conclusion binds (remove from.p.now.literals from.i ++ slice_set from.apart.now j (literal_replaced path from.put_in.now into))
+left_para from source j into path literal binds =
+    let side : side_of from.swapped (slice_get from.p.now.literals from.i) ≡ from.put_in.now = ap (side_of from.swapped) source.equation ∙ sym source.put_in_is in
+    λ k. conclusion binds (remove from.p.now.literals from.i ++ slice_set from.apart.now j (replaced_in path (side k) (literal k)))
 
 -- ---- tests
 

@@ -1,6 +1,6 @@
 -- Literals that share no variables can be sent apart.
-use Rattle.std.proofs.Common.{◌≡◌, ◌↔◌, ◌⊎◌, inl, inr, ℕ, ◌+◌, ◌≤◌, Bool, true, false, if◌then◌else◌, IsTrue, List, [], ◌∷◌, ◌++◌, map, length, refl, sym, ap, subst, ◌∙◌, arith}
-use Rattle.std.specs.Prelude.{Contains, All}
+use Rattle.std.proofs.Common.{◌≡◌, ◌↔◌, inl, inr, ℕ, ◌+◌, ◌≤◌, Bool, true, false, if◌then◌else◌, IsTrue, List, [], ◌∷◌, ◌++◌, length, refl, sym, ap, subst, ◌∙◌, arith}
+use Rattle.std.specs.Prelude.{Contains, Some, slice_get}
 use Rattle.std.specs.List.Sorted.{IsPermutation}
 use Rattle.std.proofs.lemmas.List.{length-append}
 use Rattle.std.proofs.lemmas.List.Sorted.{IsPermutation-sym}
@@ -14,7 +14,7 @@ use Rattle.fo_terms.proofs.Substitution.{put_agree, true_left, true_right, or_ca
 use Rattle.fo_terms.specs.declared.clause.Clause.{Clause}
 use Rattle.fo_infer.specs.Subsumption.{Subsumes}
 use Rattle.fo_infer.specs.declared.seeking.Sought.{Sought}
-use Rattle.fo_infer.specs.inner.Covering.{Sends, Covers, Coverable}
+use Rattle.fo_infer.specs.inner.Covering.{Sends, Covers}
 use Rattle.fo_infer.specs.inner.Components.{literals, occurs_atom, occurs_literal, occurs_literals, Off, OffAll, Apart, SortsOut, Splits, SameSends, Sendable}
 use Rattle.fo_infer.proofs.Narrowing.{sends_all, all_sends}
 
@@ -150,3 +150,17 @@ subsumes_when c d ls made fewer same says = (
   λ told. (let some = says.0 told in (fewer, (some.0, sends_all some.0 d.literals c.literals ((same some.0 d.literals).1 some.1)))),
   λ some. says.1 (some.1.0, (same some.1.0 d.literals).0 (all_sends some.1.0 d.literals c.literals some.1.1)),
 )
+
+-- one literal, with nothing bound before
+pub one_sends : (d ls : List Literal) (made : Bool) → Covers [] d ls made → IsTrue made ↔ Sendable d ls
+one_sends d ls true h = (λ told. (h.0, h.2), λ some. refl)
+one_sends d ls false h = (λ told. (let clash : false ≡ true = told in cc), λ some. absurd (h (some.0, tt, some.1)))
+
+-- a clause of one literal
+pub only_one : (ls : List Literal) (l : Literal) → length ls ≡ 1 → slice_get ls 0 ≡ Some l → ls ≡ l ∷ []
+only_one [] l long at = absurd (omega arith)
+only_one (m ∷ []) l long at = let same : m ≡ l = cc in λ i. same i ∷ []
+only_one (m ∷ n ∷ ls) l long at = absurd (omega arith)
+
+pub same_sends : (a b : List Literal) → a ≡ b → SameSends a b
+same_sends a b e = subst (SameSends a) e (λ v d. (λ h. h, λ h. h))

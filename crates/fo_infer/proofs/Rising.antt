@@ -1,10 +1,9 @@
 -- The least number above all of a list, built up item by item.
-use Rattle.std.proofs.Common.{◌≡◌, ℕ, ◌+◌, ◌<◌, max, List, [], ◌∷◌, ◌++◌, map, take, length, get_or, refl, sym, ap, ◌∙◌, arith}
+use Rattle.std.proofs.Common.{◌≡◌, ℕ, ◌+◌, ◌<◌, max, List, [], ◌∷◌, ◌++◌, map, take, length, get_or, sym, ap, ◌∙◌, arith}
 use Rattle.std.specs.List.{concat}
 use Rattle.std.proofs.lemmas.List.{append-nil, map-append, take_more}
 use Rattle.std.proofs.lemmas.List.Folds.{concat-append}
 use Rattle.fo_terms.specs.declared.term.FoTerm.{FoTerm}
-use Rattle.fo_terms.specs.declared.atom.Atom.{Atom}
 use Rattle.fo_terms.specs.declared.atom.Atom.TheVariants.{Holds, Eq}
 use Rattle.fo_terms.specs.declared.literal.Literal.{Literal}
 use Rattle.fo_terms.specs.Normal.{variables_of, atom_terms, literal_variables}

@@ -1,10 +1,10 @@
 -- Any two most general unifiers give the same clause in normal form, and the same order.
-use Rattle.std.proofs.Common.{◌≡◌, ℕ, List, [], ◌∷◌, map, refl, sym, ap, subst, ◌∙◌}
+use Rattle.std.proofs.Common.{◌≡◌, ℕ, List, [], ◌∷◌, refl, sym, ap, subst, ◌∙◌}
 use Rattle.fo_terms.specs.declared.term.FoTerm.{FoTerm}
 use Rattle.fo_terms.specs.declared.atom.Atom.{Atom}
 use Rattle.fo_terms.specs.declared.atom.Atom.TheVariants.{Holds, Eq}
 use Rattle.fo_terms.specs.declared.literal.Literal.{Literal}
-use Rattle.fo_terms.specs.Substitution.{put, put_atom, put_literal, put_literals}
+use Rattle.fo_terms.specs.Substitution.{put, put_atom, put_literals}
 use Rattle.fo_terms.proofs.Substitution.{put_put}
 use Rattle.fo_terms.proofs.NormalForms.{one_normal_form}
 use Rattle.fo_unify.specs.declared.subst.Bind.{Bind}

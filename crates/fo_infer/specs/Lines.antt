@@ -1,5 +1,5 @@
 -- Refutations: each line follows by its origin.
-use Rattle.std.specs.Prelude.{◌≡◌, ℕ, ◌+◌, List, [], ◌∷◌, ◌++◌, take, length, Some, slice_get}
+use Rattle.std.specs.Prelude.{◌≡◌, ℕ, List, [], ◌∷◌, ◌++◌, Some, slice_get}
 use Rattle.fo_terms.specs.declared.clause.Clause.{Clause}
 use Rattle.fo_terms.specs.Normal.{normal_of}
 use Rattle.fo_infer.specs.declared.refutation.Line.{Line}

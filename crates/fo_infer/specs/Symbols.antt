@@ -1,5 +1,5 @@
 -- Which symbols stand in a clause, as marks in a number of 64 bits.
-use Rattle.std.specs.Prelude.{ℕ, ◌+◌, ◌*◌, ◌%◌, ◌^◌, Bool, if◌then◌else◌, List, map, bit_or}
+use Rattle.std.specs.Prelude.{ℕ, ◌+◌, ◌*◌, ◌%◌, ◌^◌, Bool, if◌then◌else◌, map, bit_or}
 use Rattle.std.specs.List.{fold}
 use Rattle.fo_terms.specs.declared.term.FoTerm.{FoTerm}
 use Rattle.fo_terms.specs.declared.term.FoTerm.TheOpen.{FoTerm-F}

@@ -4,3 +4,4 @@ pub mod Places
 pub mod Covering
 pub mod Components
 pub mod Meeting
+pub mod Findings

@@ -5,6 +5,7 @@ mod adding;
 mod components;
 mod concluding;
 mod covering;
+mod finding;
 mod laws;
 mod made;
 mod meeting;
@@ -20,18 +21,21 @@ mod single;
 mod source;
 mod subsuming;
 mod symbols;
+mod weighing;
+mod writing;
 
 pub use concluding::push_rest;
+pub use finding::Finding;
 pub use laws::{alone_is_one_list, between_is_one_list};
 pub use made::{Made, Rule};
-pub use pairs::{between, between_plain};
+pub use meeting::may_infer;
+pub use pairs::{between, between_plain, find_between};
 pub use paramodulating::push_changed;
 pub use paths::replace_in_atom;
+pub use reading::sides;
 pub use refutation::{Line, Origin, Refutation};
 pub use renaming::{above_literals, renamed};
-pub use single::alone;
+pub use single::{alone, find_alone};
 pub use subsuming::subsumes;
 pub use symbols::{may_subsume, symbols_of};
-
-#[cfg(test)]
-mod tests;
+pub use writing::put_side;

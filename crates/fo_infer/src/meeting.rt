@@ -10,7 +10,7 @@ use fo_terms::{Clause, FoTerm, Literal};
 
 /// Whether substitutions, one for each, can make two terms the same, as far as their symbols tell.
 #[cycle(meeting)]
-fn may_meet(s: &FoTerm, t: &FoTerm) -> bool
+pub fn may_meet(s: &FoTerm, t: &FoTerm) -> bool
     ensures { Meet s.now t.now → result ≡ true }
 {
     match (s, t) {

@@ -1,15 +1,35 @@
-ghost use Rattle.std.specs.Prelude.{IfOk};
-ghost use Rattle.fo_infer.specs.Inferences.{BetweenAt, Between, BetweenPlain};
+ghost use Rattle.std.specs.Prelude.{◌≡◌, All, IfOk};
+ghost use Rattle.fo_infer.specs.Inferences.{BetweenAt, Between, BetweenPlain, renamed_apart};
+ghost use Rattle.fo_infer.specs.inner.Findings.{IsPlaced, all_made};
 ghost use Rattle.fo_infer.specs.inner.Places.{position_of};
 
-use crate::Made;
 use crate::meeting::may_infer;
 use crate::paramodulating::paramodulate;
 use crate::renaming::renamed;
 use crate::resolving::resolve;
-use fo_terms::Clause;
+use crate::writing::write_all;
+use crate::{Finding, Made};
+use fo_terms::{Clause, Literal};
 use std::alloc::Global;
 use text_kit::{NoMemory, Rows};
+
+/// The inferences of two clauses in order, before their clauses are written. `apart` are the right clause's literals renamed apart.
+pub fn find_between<'a>(
+    alloc: Global,
+    plain: bool,
+    p: &'a Clause,
+    q: &'a Clause,
+    apart: &'a Rows<Literal>,
+) -> Result<Rows<Finding<'a>>, NoMemory>
+    requires { apart.now ≡ renamed_apart p.now q.now }
+    ensures inferences { IfOk result (λ found. BetweenAt (position_of plain) p.now q.now (all_made p.now apart.now found)) }
+    ensures placed { IfOk result (λ found. All (λ f. IsPlaced p.now apart.now f.rule) found) }
+{
+    let mut out = Rows::begin(alloc);
+    resolve(alloc, p, q, apart, &mut out)?;
+    paramodulate(alloc, plain, p, q, apart, &mut out)?;
+    Ok(out)
+}
 
 fn between_at(alloc: Global, plain: bool, p: &Clause, q: &Clause) -> Result<Rows<Made>, NoMemory>
     ensures { IfOk result (λ made. BetweenAt (position_of plain) p.now q.now made) }
@@ -18,10 +38,9 @@ fn between_at(alloc: Global, plain: bool, p: &Clause, q: &Clause) -> Result<Rows
         return Ok(Rows::begin(alloc));
     }
     let apart = renamed(alloc, p, q)?;
-    let mut out = Rows::begin(alloc);
-    resolve(alloc, p, q, &apart, &mut out)?;
-    paramodulate(alloc, plain, p, q, &apart, &mut out)?;
-    Ok(out)
+    let found = find_between(alloc, plain, p, q, &apart)?;
+    let made = write_all(alloc, p, &apart, found)?;
+    Ok(made)
 }
 
 /// The inferences of two clauses, in order: resolution, and then paramodulation of the left clause's equations into

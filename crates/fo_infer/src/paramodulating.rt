@@ -1,39 +1,46 @@
-ghost use Rattle.std.specs.Prelude.{◌≡◌, ◌<◌, ◌+◌, ◌++◌, ◌∷◌, [], ℕ, map, take, drop, length, Some, slice_get, slice_set, IfOk, OnOk, MatchBool};
-ghost use Rattle.std.specs.List.{remove};
+ghost use Rattle.std.specs.Prelude.{◌≡◌, ◌<◌, ◌+◌, ◌++◌, ◌∷◌, [], ℕ, List, map, take, drop, length, Some, slice_get, slice_set, IfOk, OnOk, MatchBool};
 ghost use Rattle.fo_terms.specs.Substitution.{put_literals};
 ghost use Rattle.fo_terms.specs.declared.term.FoTerm.{FoTerm};
 ghost use Rattle.fo_unify.specs.Lookup.{term_of};
 ghost use Rattle.fo_order.specs.Eligible.{IsEligible};
 ghost use Rattle.fo_infer.specs.declared.made.Rule.TheVariants.{Para};
 ghost use Rattle.fo_infer.specs.Paths.{paths_of, behind_places, at_atom_path, atom_paths};
-ghost use Rattle.fo_infer.specs.Inferences.{renamed_apart, conclusion, literal_replaced, PairGives, position_rules, direction_rules, para_rules, all_para_rules};
+ghost use Rattle.fo_terms.specs.declared.literal.Literal.{Literal};
+ghost use Rattle.fo_terms.specs.declared.clause.Clause.{Clause};
+ghost use Rattle.fo_infer.specs.Inferences.{renamed_apart, PairGives, position_rules, direction_rules, para_rules, all_para_rules};
 ghost use Rattle.fo_infer.specs.inner.Adding.{Answered, entry, Adds};
+ghost use Rattle.fo_infer.specs.inner.Findings.{given_by, all_made};
 ghost use Rattle.fo_infer.specs.inner.Places.{position_of, IsSource, NotBelow, rules_behind};
 
 use crate::adding::add;
-use crate::concluding::{push_put, push_rest};
-use crate::paths::{fits, replace_in_atom};
+use crate::concluding::push_put;
+use crate::meeting::may_meet;
+use crate::paths::fits;
 use crate::reading::sides;
 use crate::source::Source;
-use crate::{Made, Rule};
-use fo_order::{Order, eligible, kbo};
+use crate::weighing::weighs_more;
+use crate::{Finding, Rule};
+use fo_order::{eligible, is_at_most};
 use fo_terms::{Atom, Clause, FoTerm, Literal};
-use fo_unify::{Bind, apply, unify};
+use fo_unify::{Bind, Bindings, meet};
 use std::alloc::Global;
 use text_kit::{NoMemory, Rows};
 
-/// Whether the one term isn't less than or equal to the other under the unifier.
-fn not_below(alloc: Global, binds: &[Bind], s: &FoTerm, t: &FoTerm) -> Result<bool, NoMemory>
-    ensures { IfOk result (λ b. MatchBool b (NotBelow binds.now s.now t.now) (NotBelow binds.now s.now t.now → ⊥)) }
+/// Whether the one term isn't less than or equal to the other under the unifier. Nothing is written out where weights tell.
+fn not_below<'a>(
+    alloc: Global,
+    unifier: &Bindings<'a>,
+    s: &'a FoTerm,
+    t: &'a FoTerm,
+) -> Result<bool, NoMemory>
+    ensures { IfOk result (λ b. MatchBool b (NotBelow unifier.now s.now t.now) (NotBelow unifier.now s.now t.now → ⊥)) }
 {
-    let left = apply(alloc, &*binds, s)?;
-    let right = apply(alloc, &*binds, t)?;
-    match kbo(&left, &right) {
-        Order::Less => Ok(false),
-        Order::Equal => Ok(false),
-        Order::Greater => Ok(true),
-        Order::Unknown => Ok(true),
+    if weighs_more(unifier, s, t) {
+        return Ok(true);
     }
+    let left = unifier.apply(alloc, s)?;
+    let right = unifier.apply(alloc, t)?;
+    Ok(!is_at_most(&left, &right))
 }
 
 /// Adds literals with another one in the place of one of them, all with the substitution put through.
@@ -84,95 +91,61 @@ fn push_after(
     Ok(())
 }
 
-/// The rest of the left clause, and the right one with the other side at the position, the unifier put through both.
-fn conclude(
+/// The unifier of the side that is sought with one subterm of the right clause's literal `j`, where the equation may be put in there.
+fn para_at<'a>(
     alloc: Global,
-    binds: &[Bind],
-    from: &Source,
+    from: &Source<'a>,
     j: usize,
     into: &Literal,
     path: &[u64],
-) -> Result<Clause, NoMemory>
-    requires left { from.now.i < length from.now.p.now.literals }
-    requires right { j < length from.now.apart.now }
-    ensures { IfOk result (λ c. c ≡ conclusion binds.now (remove from.now.p.now.literals from.now.i ++ slice_set from.now.apart.now j (literal_replaced path.now from.now.put_in.now into.now))) }
-{
-    let mut literals = Rows::begin(alloc);
-    push_rest(
-        alloc,
-        &*binds,
-        from.p.literals.as_slice(),
-        from.i,
-        &mut literals,
-    )?;
-    let changed = Literal {
-        positive: into.positive,
-        atom: replace_in_atom(alloc, &into.atom, path, from.put_in)?,
-    };
-    push_changed(
-        alloc,
-        &*binds,
-        from.apart.as_slice(),
-        j,
-        changed,
-        &mut literals,
-    )?;
-    let clause = Clause { literals }.normal(alloc)?;
-    Ok(clause)
-}
-
-/// What the equation gives at one subterm of the right clause's literal `j`.
-fn para_at(
-    alloc: Global,
-    from: &Source,
-    j: usize,
-    into: &Literal,
-    path: &[u64],
-    u: &FoTerm,
-) -> Result<Option<Clause>, NoMemory>
+    u: &'a FoTerm,
+) -> Result<Option<Bindings<'a>>, NoMemory>
     requires source { IsSource from.now }
     requires place { j < length from.now.apart.now }
     requires literal { slice_get from.now.apart.now j ≡ Some into.now }
     requires eligible { IsEligible from.now.q.now j }
     requires subterm { at_atom_path path.now into.now.atom ≡ Some u.now }
-    ensures { IfOk result (λ c. Answered (PairGives (position_of from.now.plain) from.now.p.now from.now.q.now (Para from.now.i from.now.swapped j path.now)) c) }
+    ensures { IfOk result (λ o. Answered (PairGives (position_of from.now.plain) from.now.p.now from.now.q.now (Para from.now.i from.now.swapped j path.now)) (given_by from.now.p.now from.now.apart.now (Para from.now.i from.now.swapped j path.now) o)) }
 {
     if !fits(from.plain, &into.atom, &*path, u) {
         return Ok(None);
     }
-    match unify(alloc, from.sought, u)? {
+    let sought = from.sought;
+    if !may_meet(sought, u) {
+        return Ok(None);
+    }
+    match meet(alloc, sought, u)? {
         None => Ok(None),
         Some(unifier) => {
-            if !not_below(alloc, unifier.binds.as_slice(), from.sought, from.put_in)? {
+            if !not_below(alloc, &unifier, sought, from.put_in)? {
                 return Ok(None);
             }
-            let clause = conclude(alloc, unifier.binds.as_slice(), &*from, j, into, path)?;
-            Ok(Some(clause))
+            Ok(Some(unifier))
         }
     }
 }
 
-/// Appends what the equation gave at a subterm, where it gave something.
-fn add_at(
+/// Appends what the equation was found to give at a subterm, where it gives something.
+fn add_at<'a>(
     alloc: Global,
-    from: &Source,
+    from: &Source<'a>,
     j: usize,
     path: &Rows<u64>,
-    made: Option<Clause>,
-    out: &mut Rows<Made>,
+    found: Option<Bindings<'a>>,
+    out: &mut Rows<Finding<'a>>,
 ) -> Result<(), NoMemory>
-    ensures { OnOk result (out.new ≡ out.old ++ entry (Para from.now.i from.now.swapped j path.now) made) }
+    ensures { (p : Clause) (apart : List Literal) → OnOk result (all_made p apart out.new ≡ all_made p apart out.old ++ entry (Para from.now.i from.now.swapped j path.now) (given_by p apart (Para from.now.i from.now.swapped j path.now) found.entry)) }
 {
-    match made {
+    match found {
         None => Ok(()),
-        Some(clause) => {
+        Some(unifier) => {
             let rule = Rule::Para {
                 i: from.i as u64,
                 swapped: from.swapped,
                 j: j as u64,
                 path: path.copy(alloc)?,
             };
-            add(out, rule, Some(clause))?;
+            out.push(Finding { rule, unifier })?;
             Ok(())
         }
     }
@@ -180,14 +153,14 @@ fn add_at(
 
 /// What the equation gives at the term, whose path is given, and below it, in reading order.
 #[cycle(walking)]
-fn walk(
+fn walk<'a>(
     alloc: Global,
-    t: &FoTerm,
-    from: &Source,
+    t: &'a FoTerm,
+    from: &Source<'a>,
     j: usize,
     into: &Literal,
     path: &mut Rows<u64>,
-    out: &mut Rows<Made>,
+    out: &mut Rows<Finding<'a>>,
 ) -> Result<(), NoMemory>
     requires source { IsSource from.now }
     requires place { j < length from.now.apart.now }
@@ -195,10 +168,10 @@ fn walk(
     requires eligible { IsEligible from.now.q.now j }
     requires subterm { at_atom_path path.old into.now.atom ≡ Some t.now }
     ensures path { OnOk result (path.new ≡ path.old) }
-    ensures adds { OnOk result (Adds (PairGives (position_of from.now.plain) from.now.p.now from.now.q.now) (rules_behind from.now.i from.now.swapped j path.old (paths_of t.now)) out.old out.new) }
+    ensures adds { OnOk result (Adds (PairGives (position_of from.now.plain) from.now.p.now from.now.q.now) (rules_behind from.now.i from.now.swapped j path.old (paths_of t.now)) (all_made from.now.p.now from.now.apart.now out.old) (all_made from.now.p.now from.now.apart.now out.new)) }
 {
-    let made = para_at(alloc, &*from, j, &*into, path.as_slice(), t)?;
-    add_at(alloc, &*from, j, &*path, made, out)?;
+    let found = para_at(alloc, &*from, j, &*into, path.as_slice(), t)?;
+    add_at(alloc, &*from, j, &*path, found, out)?;
     match t {
         FoTerm::Var(_) => Ok(()),
         FoTerm::Fun(_, args) => {
@@ -209,14 +182,14 @@ fn walk(
 }
 
 #[cycle(walking)]
-fn walk_all(
+fn walk_all<'a>(
     alloc: Global,
-    terms: &[FoTerm],
-    from: &Source,
+    terms: &'a [FoTerm],
+    from: &Source<'a>,
     j: usize,
     into: &Literal,
     path: &mut Rows<u64>,
-    out: &mut Rows<Made>,
+    out: &mut Rows<Finding<'a>>,
 ) -> Result<(), NoMemory>
     requires source { IsSource from.now }
     requires place { j < length from.now.apart.now }
@@ -224,7 +197,7 @@ fn walk_all(
     requires eligible { IsEligible from.now.q.now j }
     requires subterms { (k : ℕ) (t : FoTerm) → slice_get terms.now k ≡ Some t → at_atom_path (path.old ++ k ∷ []) into.now.atom ≡ Some t }
     ensures path { OnOk result (path.new ≡ path.old) }
-    ensures adds { OnOk result (Adds (PairGives (position_of from.now.plain) from.now.p.now from.now.q.now) (rules_behind from.now.i from.now.swapped j path.old (behind_places 0 (map paths_of terms.now))) out.old out.new) }
+    ensures adds { OnOk result (Adds (PairGives (position_of from.now.plain) from.now.p.now from.now.q.now) (rules_behind from.now.i from.now.swapped j path.old (behind_places 0 (map paths_of terms.now))) (all_made from.now.p.now from.now.apart.now out.old) (all_made from.now.p.now from.now.apart.now out.new)) }
 {
     for k in 0..terms.len() {
         path.push(k as u64)?;
@@ -235,18 +208,18 @@ fn walk_all(
 }
 
 /// What the equation gives at the positions of one literal of the right clause, in reading order.
-fn walk_literal(
+fn walk_literal<'a>(
     alloc: Global,
-    from: &Source,
+    from: &Source<'a>,
     j: usize,
-    into: &Literal,
-    out: &mut Rows<Made>,
+    into: &'a Literal,
+    out: &mut Rows<Finding<'a>>,
 ) -> Result<(), NoMemory>
     requires source { IsSource from.now }
     requires place { j < length from.now.apart.now }
     requires literal { slice_get from.now.apart.now j ≡ Some into.now }
     requires eligible { IsEligible from.now.q.now j }
-    ensures { OnOk result (Adds (PairGives (position_of from.now.plain) from.now.p.now from.now.q.now) (map (λ path. Para from.now.i from.now.swapped j path) (atom_paths into.now.atom)) out.old out.new) }
+    ensures { OnOk result (Adds (PairGives (position_of from.now.plain) from.now.p.now from.now.q.now) (map (λ path. Para from.now.i from.now.swapped j path) (atom_paths into.now.atom)) (all_made from.now.p.now from.now.apart.now out.old) (all_made from.now.p.now from.now.apart.now out.new)) }
 {
     match &into.atom {
         Atom::Holds(t) => {
@@ -261,21 +234,21 @@ fn walk_literal(
     }
 }
 
-fn walk_side(
+fn walk_side<'a>(
     alloc: Global,
-    t: &FoTerm,
-    from: &Source,
+    t: &'a FoTerm,
+    from: &Source<'a>,
     j: usize,
     into: &Literal,
     side: u64,
-    out: &mut Rows<Made>,
+    out: &mut Rows<Finding<'a>>,
 ) -> Result<(), NoMemory>
     requires source { IsSource from.now }
     requires place { j < length from.now.apart.now }
     requires literal { slice_get from.now.apart.now j ≡ Some into.now }
     requires eligible { IsEligible from.now.q.now j }
     requires subterm { at_atom_path (side ∷ []) into.now.atom ≡ Some t.now }
-    ensures { OnOk result (Adds (PairGives (position_of from.now.plain) from.now.p.now from.now.q.now) (rules_behind from.now.i from.now.swapped j (side ∷ []) (paths_of t.now)) out.old out.new) }
+    ensures { OnOk result (Adds (PairGives (position_of from.now.plain) from.now.p.now from.now.q.now) (rules_behind from.now.i from.now.swapped j (side ∷ []) (paths_of t.now)) (all_made from.now.p.now from.now.apart.now out.old) (all_made from.now.p.now from.now.apart.now out.new)) }
 {
     let mut path = Rows::begin(alloc);
     path.push(side)?;
@@ -284,28 +257,33 @@ fn walk_side(
 }
 
 /// What the equation gives at the right clause's literal `j`, where that is eligible.
-fn para_literal(
+fn para_literal<'a>(
     alloc: Global,
-    from: &Source,
+    from: &Source<'a>,
     j: usize,
-    out: &mut Rows<Made>,
+    out: &mut Rows<Finding<'a>>,
 ) -> Result<(), NoMemory>
     requires source { IsSource from.now }
     requires place { j < length from.now.apart.now }
     requires within { j < length from.now.q.now.literals }
-    ensures { OnOk result (Adds (PairGives (position_of from.now.plain) from.now.p.now from.now.q.now) (position_rules from.now.apart.now from.now.i from.now.swapped j) out.old out.new) }
+    ensures { OnOk result (Adds (PairGives (position_of from.now.plain) from.now.p.now from.now.q.now) (position_rules from.now.apart.now from.now.i from.now.swapped j) (all_made from.now.p.now from.now.apart.now out.old) (all_made from.now.p.now from.now.apart.now out.new)) }
 {
     if !eligible(from.q, j) {
         return Ok(());
     }
-    walk_literal(alloc, &*from, j, from.apart.at(j), out)?;
+    let apart = from.apart;
+    walk_literal(alloc, &*from, j, apart.at(j), out)?;
     Ok(())
 }
 
 /// What the equation gives in one direction.
-fn para_direction(alloc: Global, from: &Source, out: &mut Rows<Made>) -> Result<(), NoMemory>
+fn para_direction<'a>(
+    alloc: Global,
+    from: &Source<'a>,
+    out: &mut Rows<Finding<'a>>,
+) -> Result<(), NoMemory>
     requires source { IsSource from.now }
-    ensures { OnOk result (Adds (PairGives (position_of from.now.plain) from.now.p.now from.now.q.now) (direction_rules from.now.apart.now from.now.i from.now.swapped) out.old out.new) }
+    ensures { OnOk result (Adds (PairGives (position_of from.now.plain) from.now.p.now from.now.q.now) (direction_rules from.now.apart.now from.now.i from.now.swapped) (all_made from.now.p.now from.now.apart.now out.old) (all_made from.now.p.now from.now.apart.now out.new)) }
 {
     for j in 0..from.q.literals.len() {
         para_literal(alloc, &*from, j, out)?;
@@ -314,18 +292,18 @@ fn para_direction(alloc: Global, from: &Source, out: &mut Rows<Made>) -> Result<
 }
 
 /// What the left clause's literal `i` gives, where it is an eligible positive equation: as written, and then swapped.
-fn para_equation(
+fn para_equation<'a>(
     alloc: Global,
     plain: bool,
-    p: &Clause,
-    q: &Clause,
-    apart: &Rows<Literal>,
+    p: &'a Clause,
+    q: &'a Clause,
+    apart: &'a Rows<Literal>,
     i: usize,
-    out: &mut Rows<Made>,
+    out: &mut Rows<Finding<'a>>,
 ) -> Result<(), NoMemory>
     requires apart { apart.now ≡ renamed_apart p.now q.now }
     requires left { i < length p.now.literals }
-    ensures { OnOk result (Adds (PairGives (position_of plain) p.now q.now) (para_rules apart.now i) out.old out.new) }
+    ensures { OnOk result (Adds (PairGives (position_of plain) p.now q.now) (para_rules apart.now i) (all_made p.now apart.now out.old) (all_made p.now apart.now out.new)) }
 {
     match sides(p.literals.at(i), true) {
         None => Ok(()),
@@ -360,17 +338,17 @@ fn para_equation(
     }
 }
 
-/// The paramodulants of two clauses, in order.
-pub fn paramodulate(
+/// The unifiers of all paramodulants of two clauses, in order.
+pub fn paramodulate<'a>(
     alloc: Global,
     plain: bool,
-    p: &Clause,
-    q: &Clause,
-    apart: &Rows<Literal>,
-    out: &mut Rows<Made>,
+    p: &'a Clause,
+    q: &'a Clause,
+    apart: &'a Rows<Literal>,
+    out: &mut Rows<Finding<'a>>,
 ) -> Result<(), NoMemory>
     requires apart { apart.now ≡ renamed_apart p.now q.now }
-    ensures { OnOk result (Adds (PairGives (position_of plain) p.now q.now) (all_para_rules p.now q.now) out.old out.new) }
+    ensures { OnOk result (Adds (PairGives (position_of plain) p.now q.now) (all_para_rules p.now q.now) (all_made p.now apart.now out.old) (all_made p.now apart.now out.new)) }
 {
     for i in 0..p.literals.len() {
         para_equation(alloc, plain, p, q, apart, i, out)?;

@@ -1,27 +1,33 @@
-ghost use Rattle.std.specs.Prelude.{◌<◌, length, IfOk, OnOk};
+ghost use Rattle.std.specs.Prelude.{◌<◌, [], All, length, IfOk, OnOk};
+ghost use Rattle.fo_infer.specs.declared.made.Rule.TheVariants.{Factor, Reflex};
 ghost use Rattle.fo_infer.specs.Inferences.{Factors, Reflects, AloneGives, Alone, factor_rules, all_factor_rules, all_reflex_rules};
 ghost use Rattle.fo_infer.specs.inner.Adding.{Answered, Adds, AtomsUnifierOf};
+ghost use Rattle.fo_infer.specs.inner.Findings.{IsPlaced, given_by, all_made};
 
 use crate::adding::add;
-use crate::concluding::conclude_alone;
 use crate::reading::sides;
-use crate::{Made, Rule};
+use crate::writing::write_alone;
+use crate::{Finding, Made, Rule};
 use fo_terms::{Atom, Clause};
-use fo_unify::{Subst, unify, unify_both};
+use fo_unify::{Bindings, meet, meet_both};
 use std::alloc::Global;
 use text_kit::{NoMemory, Rows};
 
 /// A most general unifier of two atoms of one kind, sides in order.
-fn unify_atoms(alloc: Global, a: &Atom, b: &Atom) -> Result<Option<Subst>, NoMemory>
+fn unify_atoms<'a>(
+    alloc: Global,
+    a: &'a Atom,
+    b: &'a Atom,
+) -> Result<Option<Bindings<'a>>, NoMemory>
     ensures { IfOk result (λ u. AtomsUnifierOf a.now b.now u) }
 {
     match (a, b) {
         (Atom::Holds(s), Atom::Holds(t)) => {
-            let u = unify(alloc, s, t)?;
+            let u = meet(alloc, s, t)?;
             Ok(u)
         }
         (Atom::Eq(s, t), Atom::Eq(x, y)) => {
-            let u = unify_both(alloc, (s, x), (t, y))?;
+            let u = meet_both(alloc, (s, x), (t, y))?;
             Ok(u)
         }
         (Atom::Holds(_), Atom::Eq(_, _)) => Ok(None),
@@ -29,11 +35,16 @@ fn unify_atoms(alloc: Global, a: &Atom, b: &Atom) -> Result<Option<Subst>, NoMem
     }
 }
 
-/// The clause without literal `j`, which is made the same as literal `i`.
-fn factor_at(alloc: Global, p: &Clause, i: usize, j: usize) -> Result<Option<Clause>, NoMemory>
+/// The unifier of literals `i` and `j`, of which the later one goes.
+fn factor_at<'a>(
+    alloc: Global,
+    p: &'a Clause,
+    i: usize,
+    j: usize,
+) -> Result<Option<Bindings<'a>>, NoMemory>
     requires first { i < length p.now.literals }
     requires second { j < length p.now.literals }
-    ensures { IfOk result (λ c. Answered (Factors p.now i j) c) }
+    ensures { IfOk result (λ u. Answered (Factors p.now i j) (given_by p.now [] (Factor i j) u)) }
 {
     if j <= i {
         return Ok(None);
@@ -43,52 +54,49 @@ fn factor_at(alloc: Global, p: &Clause, i: usize, j: usize) -> Result<Option<Cla
     if first.positive != second.positive {
         return Ok(None);
     }
-    match unify_atoms(alloc, &first.atom, &second.atom)? {
+    let unifier = unify_atoms(alloc, &first.atom, &second.atom)?;
+    Ok(unifier)
+}
+
+/// The unifier of the sides of the negated equation `i`, which goes.
+fn reflect_at<'a>(alloc: Global, p: &'a Clause, i: usize) -> Result<Option<Bindings<'a>>, NoMemory>
+    requires { i < length p.now.literals }
+    ensures { IfOk result (λ u. Answered (Reflects p.now i) (given_by p.now [] (Reflex i) u)) }
+{
+    match sides(p.literals.at(i), false) {
         None => Ok(None),
-        Some(u) => {
-            let clause = conclude_alone(alloc, u.binds.as_slice(), p, j)?;
-            Ok(Some(clause))
+        Some((s, t)) => {
+            let unifier = meet(alloc, s, t)?;
+            Ok(unifier)
         }
     }
 }
 
-/// The clause without its negated equation `i`, whose sides are made the same.
-fn reflect_at(alloc: Global, p: &Clause, i: usize) -> Result<Option<Clause>, NoMemory>
+fn factor_literal<'a>(
+    alloc: Global,
+    p: &'a Clause,
+    i: usize,
+    out: &mut Rows<Finding<'a>>,
+) -> Result<(), NoMemory>
     requires { i < length p.now.literals }
-    ensures { IfOk result (λ c. Answered (Reflects p.now i) c) }
-{
-    match sides(p.literals.at(i), false) {
-        None => Ok(None),
-        Some((s, t)) => match unify(alloc, s, t)? {
-            None => Ok(None),
-            Some(u) => {
-                let clause = conclude_alone(alloc, u.binds.as_slice(), p, i)?;
-                Ok(Some(clause))
-            }
-        },
-    }
-}
-
-fn factor_literal(alloc: Global, p: &Clause, i: usize, out: &mut Rows<Made>) -> Result<(), NoMemory>
-    requires { i < length p.now.literals }
-    ensures { OnOk result (Adds (AloneGives p.now) (factor_rules (length p.now.literals) i) out.old out.new) }
+    ensures { OnOk result (Adds (AloneGives p.now) (factor_rules (length p.now.literals) i) (all_made p.now [] out.old) (all_made p.now [] out.new)) }
 {
     for j in 0..p.literals.len() {
-        let made = factor_at(alloc, p, i, j)?;
+        let found = factor_at(alloc, p, i, j)?;
         add(
             out,
             Rule::Factor {
                 i: i as u64,
                 j: j as u64,
             },
-            made,
+            found,
         )?;
     }
     Ok(())
 }
 
-fn factor(alloc: Global, p: &Clause, out: &mut Rows<Made>) -> Result<(), NoMemory>
-    ensures { OnOk result (Adds (AloneGives p.now) (all_factor_rules p.now) out.old out.new) }
+fn factor<'a>(alloc: Global, p: &'a Clause, out: &mut Rows<Finding<'a>>) -> Result<(), NoMemory>
+    ensures { OnOk result (Adds (AloneGives p.now) (all_factor_rules p.now) (all_made p.now [] out.old) (all_made p.now [] out.new)) }
 {
     for i in 0..p.literals.len() {
         factor_literal(alloc, p, i, out)?;
@@ -96,14 +104,25 @@ fn factor(alloc: Global, p: &Clause, out: &mut Rows<Made>) -> Result<(), NoMemor
     Ok(())
 }
 
-fn reflect(alloc: Global, p: &Clause, out: &mut Rows<Made>) -> Result<(), NoMemory>
-    ensures { OnOk result (Adds (AloneGives p.now) (all_reflex_rules p.now) out.old out.new) }
+fn reflect<'a>(alloc: Global, p: &'a Clause, out: &mut Rows<Finding<'a>>) -> Result<(), NoMemory>
+    ensures { OnOk result (Adds (AloneGives p.now) (all_reflex_rules p.now) (all_made p.now [] out.old) (all_made p.now [] out.new)) }
 {
     for i in 0..p.literals.len() {
-        let made = reflect_at(alloc, p, i)?;
-        add(out, Rule::Reflex { i: i as u64 }, made)?;
+        let found = reflect_at(alloc, p, i)?;
+        add(out, Rule::Reflex { i: i as u64 }, found)?;
     }
     Ok(())
+}
+
+/// The inferences of one clause in order, before their clauses are written: factoring, and then reflexivity.
+pub fn find_alone<'a>(alloc: Global, p: &'a Clause) -> Result<Rows<Finding<'a>>, NoMemory>
+    ensures inferences { IfOk result (λ found. Alone p.now (all_made p.now [] found)) }
+    ensures placed { IfOk result (λ found. All (λ f. IsPlaced p.now [] f.rule) found) }
+{
+    let mut out = Rows::begin(alloc);
+    factor(alloc, p, &mut out)?;
+    reflect(alloc, p, &mut out)?;
+    Ok(out)
 }
 
 /// The inferences of one clause, in order: factoring, and then reflexivity.
@@ -114,8 +133,7 @@ fn reflect(alloc: Global, p: &Clause, out: &mut Rows<Made>) -> Result<(), NoMemo
 pub fn alone(alloc: Global, p: &Clause) -> Result<Rows<Made>, NoMemory>
     ensures { IfOk result (λ made. Alone p.now made) }
 {
-    let mut out = Rows::begin(alloc);
-    factor(alloc, p, &mut out)?;
-    reflect(alloc, p, &mut out)?;
-    Ok(out)
+    let found = find_alone(alloc, p)?;
+    let made = write_alone(alloc, p, found)?;
+    Ok(made)
 }

@@ -1,11 +1,26 @@
-ghost use Rattle.std.specs.Prelude.{◌↔◌, IsTrue, IfOk};
+ghost use Rattle.std.specs.Prelude.{◌↔◌, [], ◌∷◌, IsTrue, IfOk};
 ghost use Rattle.fo_infer.specs.Subsumption.{Subsumes};
+ghost use Rattle.fo_infer.specs.inner.Components.{Sendable};
 
 use crate::components::covers_components;
-use crate::seeking::{fewest_first, seek};
-use fo_terms::Clause;
+use crate::covering::covers;
+use crate::seeking::{Sought, fewest_first, seek};
+use fo_terms::{Clause, Literal};
 use std::alloc::Global;
-use text_kit::NoMemory;
+use text_kit::{NoMemory, Rows};
+
+/// Whether the literal can be sent to one of `d`. Where no symbol is met, it takes no memory.
+fn sends_one(alloc: Global, l: &Literal, d: &[Literal]) -> Result<bool, NoMemory>
+    ensures { IfOk result (λ b. IsTrue b ↔ Sendable d.now (l.now ∷ [])) }
+{
+    let one = [Sought {
+        literal: l,
+        partners: 1,
+    }];
+    let mut binds = Rows::begin(alloc);
+    let made = covers(&one, 0, d, &mut binds)?;
+    Ok(made)
+}
 
 /// Whether the one clause subsumes the other: it has no more literals, and one substitution sends each of its literals
 /// to a literal of the other. Two may go to the same one.
@@ -18,6 +33,10 @@ pub fn subsumes(alloc: Global, c: &Clause, d: &Clause) -> Result<bool, NoMemory>
 {
     if c.literals.len() > d.literals.len() {
         return Ok(false);
+    }
+    if c.literals.len() == 1 {
+        let made = sends_one(alloc, c.literals.at(0), d.literals.as_slice())?;
+        return Ok(made);
     }
     match seek(alloc, c.literals.as_slice(), d.literals.as_slice())? {
         None => Ok(false),

@@ -5,7 +5,7 @@ use Rattle.fo_infer.specs.declared.made.Made.{Made}
 use Rattle.fo_infer.specs.declared.made.Rule.{Rule}
 use Rattle.fo_terms.specs.declared.term.FoTerm.{FoTerm}
 use Rattle.fo_terms.specs.declared.atom.Atom.{Atom}
-use Rattle.fo_unify.specs.declared.subst.Subst.{Subst}
+use Rattle.fo_unify.specs.declared.subst.Bind.{Bind}
 use Rattle.fo_unify.specs.Unifier.{Unifies, IsMostGeneral}
 use Rattle.fo_infer.specs.Inferences.{atom_equations, Listed}
 
@@ -26,6 +26,6 @@ pub record Adds (Gives : Rule → Clause → Type 0) (rs : List Rule) (old new :
   pub listed : Listed Gives rs more
 
 -- a most general unifier of two atoms of one kind, or there is no unifier
-abbrev pub AtomsUnifierOf : Atom → Atom → Option Subst → Type 0
-AtomsUnifierOf a b (Some u) = (es : List (FoTerm × FoTerm)) × (atom_equations a b ≡ Some es) × IsMostGeneral es u.binds
+abbrev pub AtomsUnifierOf : Atom → Atom → Option (List Bind) → Type 0
+AtomsUnifierOf a b (Some binds) = (es : List (FoTerm × FoTerm)) × (atom_equations a b ≡ Some es) × IsMostGeneral es binds
 AtomsUnifierOf a b None = (es : List (FoTerm × FoTerm)) → atom_equations a b ≡ Some es → (v : ℕ → FoTerm) → Unifies v es → ⊥

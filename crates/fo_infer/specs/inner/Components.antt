@@ -1,5 +1,5 @@
 -- Literals of a clause that hang together by their variables.
-use Rattle.std.specs.Prelude.{◌≡◌, ◌↔◌, ℕ, Bool, true, false, ◌||◌, ◌⊎◌, IsTrue, List, [], ◌∷◌, ◌++◌, map, Option, Some, None}
+use Rattle.std.specs.Prelude.{◌≡◌, ℕ, Bool, false, ◌||◌, ◌⊎◌, IsTrue, List, [], ◌∷◌, ◌++◌, map, Option, Some, None}
 use Rattle.fo_terms.specs.declared.term.FoTerm.{FoTerm}
 use Rattle.fo_terms.specs.declared.atom.Atom.{Atom}
 use Rattle.fo_terms.specs.declared.atom.Atom.TheVariants.{Holds, Eq}

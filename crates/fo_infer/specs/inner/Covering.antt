@@ -2,7 +2,7 @@
 use Rattle.std.specs.Prelude.{◌≡◌, ℕ, Bool, true, false, List, [], ◌∷◌, Contains}
 use Rattle.fo_terms.specs.declared.term.FoTerm.{FoTerm}
 use Rattle.fo_terms.specs.declared.literal.Literal.{Literal}
-use Rattle.fo_terms.specs.Substitution.{put, put_literal}
+use Rattle.fo_terms.specs.Substitution.{put_literal}
 use Rattle.fo_unify.specs.declared.subst.Bind.{Bind}
 use Rattle.fo_unify.specs.Match.{Unique, Fits}
 

@@ -2,7 +2,6 @@
 use Rattle.std.specs.Prelude.{◌≡◌, Bool, Option, Some, None}
 use Rattle.std.specs.Borrow.{Bor}
 use Rattle.fo_terms.specs.declared.term.FoTerm.{FoTerm}
-use Rattle.fo_terms.specs.declared.atom.Atom.{Atom}
 use Rattle.fo_terms.specs.declared.atom.Atom.TheVariants.{Holds, Eq}
 use Rattle.fo_terms.specs.declared.literal.Literal.{Literal}
 

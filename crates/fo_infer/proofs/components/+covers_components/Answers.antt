@@ -1,6 +1,5 @@
-use Rattle.std.proofs.Common.{◌≡◌, ◌↔◌, ◌<◌, ◌≤◌, ◌-◌, ◌++◌, ◌∷◌, [], IsTrue, true, false, drop, length, sym, ap, subst, ◌∙◌, arith, length-drop}
+use Rattle.std.proofs.Common.{◌↔◌, ◌<◌, ◌≤◌, ◌-◌, ◌++◌, ◌∷◌, [], IsTrue, drop, length, ap, subst, ◌∙◌, arith, length-drop}
 use Rattle.std.proofs.lemmas.List.{take_all}
-use Rattle.fo_terms.specs.declared.literal.Literal.{Literal}
 use Rattle.fo_unify.specs.Shown.{as_binds}
 use Rattle.fo_unify.proofs.Closing.{drop_read}
 use Rattle.fo_infer.specs.inner.Covering.{Covers}

@@ -1,4 +1,4 @@
-use Rattle.std.proofs.Common.{◌≡◌, ◌≤◌, ◌++◌, ◌∷◌, [], take, length, sym, subst, ap, arith}
+use Rattle.std.proofs.Common.{◌≤◌, take, length, sym, subst, arith}
 use Rattle.std.proofs.lemmas.List.{take_all}
 use Rattle.fo_unify.proofs.Closing.{map_more}
 use Rattle.fo_infer.specs.inner.Components.{literals, Splits}

@@ -1,12 +1,11 @@
-use Rattle.std.proofs.Common.{◌≡◌, ◌≤◌, ◌<◌, ◌+◌, ◌-◌, true, false, List, [], ◌∷◌, take, drop, length, get_or, sym, ap, subst, ◌∙◌, arith, length-drop}
-use Rattle.std.proofs.lemmas.List.{drop_all, take_all, length-map}
-use Rattle.fo_terms.specs.declared.literal.Literal.{Literal}
+use Rattle.std.proofs.Common.{◌≡◌, ◌≤◌, ◌+◌, ◌-◌, true, false, take, drop, length, get_or, sym, ap, subst, ◌∙◌, arith, length-drop}
+use Rattle.std.proofs.lemmas.List.{drop_all, length-map}
 use Rattle.fo_terms.specs.Substitution.{put_literal}
 use Rattle.fo_unify.specs.Shown.{as_binds}
 use Rattle.fo_unify.proofs.Closing.{drop_read}
 use Rattle.fo_infer.specs.inner.Components.{literals}
-use Rattle.fo_infer.specs.inner.Covering.{Narrows, Covers, CoversBy, CoverableBy}
-use Rattle.fo_infer.proofs.Narrowing.{NoneBefore, covered_all, by_not, by_next, found_one, found_none, none_more}
+use Rattle.fo_infer.specs.inner.Covering.{Narrows, CoversBy, CoverableBy}
+use Rattle.fo_infer.proofs.Narrowing.{covered_all, by_not, by_next, found_one, found_none, none_more}
 use Rattle.fo_infer.proofs.covering.+covering.Goals as goal
 
 pub covers-returns-then-k-c-clause-covers : goal.covers-returns-then-k-c-clause-covers

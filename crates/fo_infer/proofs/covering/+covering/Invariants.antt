@@ -1,4 +1,4 @@
-use Rattle.std.proofs.Common.{◌≡◌, ◌+◌, ◌*◌, ◌-◌, drop, length}
+use Rattle.std.proofs.Common.{◌≡◌, ◌*◌, ◌-◌, drop, length}
 use Rattle.fo_unify.specs.Shown.{as_binds}
 use Rattle.fo_infer.specs.inner.Components.{literals}
 use Rattle.fo_infer.proofs.Narrowing.{NoneBefore}

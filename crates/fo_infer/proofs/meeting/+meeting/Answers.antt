@@ -1,4 +1,4 @@
-use Rattle.std.proofs.Common.{◌≡◌, false, true, ap, sym, subst, ◌∙◌, map, arith}
+use Rattle.std.proofs.Common.{ap, sym, ◌∙◌, map}
 use Rattle.fo_terms.specs.Substitution.{put}
 use Rattle.fo_infer.proofs.Meetings.{meet_parts, same_lengths, meet_at}
 use Rattle.fo_infer.proofs.meeting.+meeting.Goals as goal

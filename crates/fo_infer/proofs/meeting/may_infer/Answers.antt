@@ -1,4 +1,4 @@
-use Rattle.std.proofs.Common.{◌≡◌, ◌≤◌, ℕ, length, get_or, Some, slice_get, subst, arith, refl}
+use Rattle.std.proofs.Common.{◌≡◌, ◌≤◌, ℕ, length, get_or, Some, slice_get, subst}
 use Rattle.fo_terms.specs.declared.literal.Literal.{Literal}
 use Rattle.fo_infer.specs.inner.Meeting.{NoneMeets, LacksEquations}
 use Rattle.fo_infer.proofs.Meetings.{all_at, more_at}

@@ -1,4 +1,4 @@
-use Rattle.std.proofs.Common.{◌≡◌, true, false, subst, sym}
+use Rattle.std.proofs.Common.{◌≡◌, false, subst, sym}
 use Rattle.fo_infer.specs.inner.Reading.{HeldAs}
 use Rattle.fo_infer.specs.inner.Meeting.{Meet}
 use Rattle.fo_infer.proofs.Meetings.{one_term}

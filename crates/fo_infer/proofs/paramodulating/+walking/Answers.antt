@@ -1,4 +1,4 @@
-use Rattle.std.proofs.Common.{◌≡◌, ◌≤◌, ◌+◌, ◌++◌, ◌∷◌, [], map, sum, take, length, sym, ap, subst, ◌∙◌, refl, arith, slice_get, Some, get_or}
+use Rattle.std.proofs.Common.{◌≡◌, ◌++◌, ◌∷◌, [], map, sum, sym, ap, subst, ◌∙◌, refl, arith, slice_get, Some}
 use Rattle.std.proofs.lemmas.List.{take_all}
 use Rattle.fo_terms.specs.Weight.{size_of}
 use Rattle.fo_infer.specs.Paths.{at_atom_path, paths_of, behind_places}
@@ -6,6 +6,7 @@ use Rattle.fo_infer.specs.Inferences.{PairGives}
 use Rattle.fo_infer.specs.declared.made.Rule.TheVariants.{Para}
 use Rattle.fo_infer.specs.inner.Adding.{Answered, Adds}
 use Rattle.fo_infer.specs.inner.Places.{position_of, rules_behind}
+use Rattle.fo_infer.specs.inner.Findings.{given_by, all_made}
 use Rattle.fo_infer.proofs.Listing.{adds_start}
 use Rattle.fo_infer.proofs.Paramodulants.{deeper, walk_var, walk_fun, walk_more, part_size, fun_size, pop_back, got}
 use Rattle.fo_infer.proofs.paramodulating.+walking.Goals as goal
@@ -35,8 +36,8 @@ walk-returns-in-Var t c =
     let from = c.args.from.now in
     record {
       path = refl;
-      adds = walk_var (PairGives (position_of from.plain) from.p.now from.q.now) from.i from.swapped c.args.j c.args.path.now c.in-Var.field-0 c.args.t.now c.in_ok-made.made c.args.out.now c.add_at.new.out c.in-Var.is
-          c.in_ok-add_at.ensures (subst (λ l. Answered (PairGives (position_of from.plain) from.p.now from.q.now (Para from.i from.swapped c.args.j l)) c.in_ok-made.made) c.as_slice.ensures c.in_ok-made.ensures);
+      adds = walk_var (PairGives (position_of from.plain) from.p.now from.q.now) from.i from.swapped c.args.j c.args.path.now c.in-Var.field-0 c.args.t.now (given_by from.p.now from.apart.now (Para from.i from.swapped c.args.j c.args.path.now) c.in_ok-found.found) (all_made from.p.now from.apart.now c.args.out.now) (all_made from.p.now from.apart.now c.add_at.new.out) c.in-Var.is
+          (c.in_ok-add_at.ensures from.p.now from.apart.now) (subst (λ l. Answered (PairGives (position_of from.plain) from.p.now from.q.now (Para from.i from.swapped c.args.j l)) (given_by from.p.now from.apart.now (Para from.i from.swapped c.args.j l) c.in_ok-found.found)) c.as_slice.ensures c.in_ok-found.ensures);
     }
 
 pub walk-returns-in_ok-walk_all-in-Fun : goal.walk-returns-in_ok-walk_all-in-Fun
@@ -45,15 +46,15 @@ walk-returns-in_ok-walk_all-in-Fun t c =
     let lent : map paths_of c.as_slice-in-Fun.result.now ≡ map paths_of c.in-Fun.args = ap (map paths_of) c.as_slice-in-Fun.ensures in
     record {
       path = c.in_ok-walk_all-in-Fun.ensures.path;
-      adds = walk_fun (PairGives (position_of from.plain) from.p.now from.q.now) from.i from.swapped c.args.j c.args.path.now c.in-Fun.field-0 c.in-Fun.args c.args.t.now c.in_ok-made.made c.args.out.now c.add_at.new.out
-          c.walk_all.new.out c.in-Fun.is c.in_ok-add_at.ensures (subst (λ l. Answered (PairGives (position_of from.plain) from.p.now from.q.now (Para from.i from.swapped c.args.j l)) c.in_ok-made.made) c.as_slice.ensures c.in_ok-made.ensures)
-          (subst (λ ls. Adds (PairGives (position_of from.plain) from.p.now from.q.now) (rules_behind from.i from.swapped c.args.j c.args.path.now (behind_places 0 ls)) c.add_at.new.out c.walk_all.new.out) lent c.in_ok-walk_all-in-Fun.ensures.adds);
+      adds = walk_fun (PairGives (position_of from.plain) from.p.now from.q.now) from.i from.swapped c.args.j c.args.path.now c.in-Fun.field-0 c.in-Fun.args c.args.t.now (given_by from.p.now from.apart.now (Para from.i from.swapped c.args.j c.args.path.now) c.in_ok-found.found) (all_made from.p.now from.apart.now c.args.out.now) (all_made from.p.now from.apart.now c.add_at.new.out)
+          (all_made from.p.now from.apart.now c.walk_all.new.out) c.in-Fun.is (c.in_ok-add_at.ensures from.p.now from.apart.now) (subst (λ l. Answered (PairGives (position_of from.plain) from.p.now from.q.now (Para from.i from.swapped c.args.j l)) (given_by from.p.now from.apart.now (Para from.i from.swapped c.args.j l) c.in_ok-found.found)) c.as_slice.ensures c.in_ok-found.ensures)
+          (subst (λ ls. Adds (PairGives (position_of from.plain) from.p.now from.q.now) (rules_behind from.i from.swapped c.args.j c.args.path.now (behind_places 0 ls)) (all_made from.p.now from.apart.now c.add_at.new.out) (all_made from.p.now from.apart.now c.walk_all.new.out)) lent c.in_ok-walk_all-in-Fun.ensures.adds);
     }
 
 pub walk_all-loop-k-init : goal.walk_all-loop-k-init
 walk_all-loop-k-init t c = record {
   path = refl;
-  adds = adds_start (PairGives (position_of c.args.from.now.plain) c.args.from.now.p.now c.args.from.now.q.now) c.args.out.now;
+  adds = adds_start (PairGives (position_of c.args.from.now.plain) c.args.from.now.p.now c.args.from.now.q.now) (all_made c.args.from.now.p.now c.args.from.now.apart.now c.args.out.now);
 }
 
 pub walk_all-walk-requires : goal.walk_all-walk-requires
@@ -84,8 +85,8 @@ walk_all-loop-k-preserved t c =
     let here : c.push.new.self ≡ c.args.path.now ++ c.loop-k.k ∷ [] = c.in_ok-push.ensures.ok ∙ ap (λ l. l ++ c.loop-k.k ∷ []) c.loop-k.invariant.path in
     record {
       path = pop_back c.pop.result c.walk.new.path c.pop.new.self c.args.path.now c.loop-k.k c.pop.ensures (c.in_ok-walk.ensures.path ∙ here);
-      adds = walk_more gives from.i from.swapped c.args.j c.args.path.now c.args.terms.now c.loop-k.k c.index-terms-k.result c.args.out.now c.loop-k.out c.walk.new.out c.loop-k-test.true c.index-terms-k.is
-          c.loop-k.invariant.adds (subst (λ l. Adds gives (rules_behind from.i from.swapped c.args.j l (paths_of c.index-terms-k.result)) c.loop-k.out c.walk.new.out) here c.in_ok-walk.ensures.adds);
+      adds = walk_more gives from.i from.swapped c.args.j c.args.path.now c.args.terms.now c.loop-k.k c.index-terms-k.result (all_made from.p.now from.apart.now c.args.out.now) (all_made from.p.now from.apart.now c.loop-k.out) (all_made from.p.now from.apart.now c.walk.new.out) c.loop-k-test.true c.index-terms-k.is
+          c.loop-k.invariant.adds (subst (λ l. Adds gives (rules_behind from.i from.swapped c.args.j l (paths_of c.index-terms-k.result)) (all_made from.p.now from.apart.now c.loop-k.out) (all_made from.p.now from.apart.now c.walk.new.out)) here c.in_ok-walk.ensures.adds);
     }
 
 pub walk_all-returns : goal.walk_all-returns
@@ -93,6 +94,6 @@ walk_all-returns t c =
     let from = c.args.from.now in
     record {
       path = c.loop-k.invariant.path;
-      adds = subst (λ ts. Adds (PairGives (position_of from.plain) from.p.now from.q.now) (rules_behind from.i from.swapped c.args.j c.args.path.now (behind_places 0 (map paths_of ts))) c.args.out.now c.loop-k.out)
+      adds = subst (λ ts. Adds (PairGives (position_of from.plain) from.p.now from.q.now) (rules_behind from.i from.swapped c.args.j c.args.path.now (behind_places 0 (map paths_of ts))) (all_made from.p.now from.apart.now c.args.out.now) (all_made from.p.now from.apart.now c.loop-k.out))
           (take_all c.loop-k.k c.args.terms.now c.loop-k-test.false) c.loop-k.invariant.adds;
     }

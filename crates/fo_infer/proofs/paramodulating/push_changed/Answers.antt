@@ -1,4 +1,4 @@
-use Rattle.std.proofs.Common.{◌≡◌, [], ◌∷◌, ◌++◌, ◌+◌, take, drop, suc, sym, ap, ◌∙◌, add-one}
+use Rattle.std.proofs.Common.{[], ◌∷◌, ◌++◌, ◌+◌, take, drop, sym, ap, ◌∙◌, add-one}
 use Rattle.std.specs.Prelude.{slice_set}
 use Rattle.fo_unify.specs.Lookup.{term_of}
 use Rattle.fo_infer.proofs.Changes.{set_parts}

@@ -1,4 +1,4 @@
-use Rattle.fo_infer.proofs.Rising.{above_holds, above_sides}
+use Rattle.fo_infer.proofs.Rising.{above_sides}
 use Rattle.fo_infer.proofs.renaming.above_literal.Goals as goal
 
 pub returns-in_ok-n-in-Eq : goal.returns-in_ok-n-in-Eq
