@@ -1,0 +1,4 @@
+pub mod Written
+pub mod Grown
+pub mod Light
+pub mod inner
