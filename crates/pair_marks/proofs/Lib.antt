@@ -1,0 +1,4 @@
+pub mod Bits
+pub mod Heads
+pub mod Growing
+pub mod Emptiness

@@ -1,0 +1,4 @@
+pub mod Tops
+pub mod Words
+pub mod Sets
+pub mod Marking
