@@ -3,8 +3,11 @@ pub mod Functional
 pub mod Indexes
 pub mod Inputs
 pub mod Marks
+pub mod Parted
 pub mod Picks
+pub mod Reach
 pub mod Saturation
 pub mod Searches
 pub mod Stocks
 pub mod Telling
+pub mod Lightened

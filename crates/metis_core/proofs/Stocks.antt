@@ -14,7 +14,7 @@ use Rattle.metis_core.specs.declared.stock.Stock.{Stock}
 use Rattle.metis_core.specs.State.{State, IsActive}
 use Rattle.metis_core.specs.Print.{clause_print}
 use Rattle.metis_core.specs.Stock.{Places, places_at, Notes, IsIndex, clauses}
-use Rattle.metis_core.specs.Held.{state_of}
+use Rattle.metis_core.specs.Units.{IsAmong}
 
 -- ---- lists with one more item
 
@@ -63,15 +63,15 @@ pub entries_grow : (xs : List Entry) (e : Entry) (n : ℕ) → e.number ≡ n �
 entries_grow xs e n is below =
     All-push (λ x. x.number < n + 1) xs e (All-weaker (λ x. x.number < n) (λ x. x.number < n + 1) (λ x less. omega arith) xs below) (omega arith)
 
--- ---- an active clause
+-- ---- one of the rest
 
 module _ (stock : Stock) (c : Clause) where
-  pub none_active : (i : ℕ) → length stock.active ≤ i
-      → ((k : ℕ) → k < i → (p : Clause) → slice_get (clauses stock.lines) (get_or stock.active k 0) ≡ Some p → Subsumes p c → ⊥)
-      → (p : Clause) → IsActive (state_of stock) p → Subsumes p c → ⊥
-  none_active i past none p active sub =
-      let at : get_or stock.active active.1.0 0 ≡ active.0 = get_or_default stock.active active.1.0 0 active.0 active.1.1 ∙ active.1.2 in
-      none active.1.0 (omega (arith, active.1.1)) p (ap (slice_get (clauses stock.lines)) at ∙ active.2) sub
+  pub none_among : (i : ℕ) → length stock.rest ≤ i
+      → ((k : ℕ) → k < i → (p : Clause) → slice_get (clauses stock.lines) (get_or stock.rest k 0) ≡ Some p → Subsumes p c → ⊥)
+      → (p : Clause) → IsAmong stock.rest stock.lines p → Subsumes p c → ⊥
+  none_among i past none p among sub =
+      let at : get_or stock.rest among.1.0 0 ≡ among.0 = get_or_default stock.rest among.1.0 0 among.0 among.1.1 ∙ among.1.2 in
+      none among.1.0 (let less = among.1.1 in omega arith) p (ap (slice_get (clauses stock.lines)) at ∙ among.2) sub
 
 -- ---- what keeps a clause out
 
@@ -82,6 +82,13 @@ subsumed_else s c sound light new (tautology h) = absurd (sound h)
 subsumed_else s c sound light new (heavy h) = absurd (omega arith)
 subsumed_else s c sound light new (subsumed p active sub) = (p, active, sub)
 subsumed_else s c sound light new (known h) = absurd (new h)
+
+-- while no clause is active, it is known
+pub known_else : (s : State) (c : Clause) → (IsTrue (is_tautology c.literals) → ⊥) → clause_size c ≤ 512 → s.active ≡ [] → Barred s c → Contains s.kept c
+known_else s c sound light idle (tautology h) = absurd (sound h)
+known_else s c sound light idle (heavy h) = absurd (omega arith)
+known_else s c sound light idle (subsumed p active sub) = absurd (let less = active.1.1 in let none = ap length idle in omega arith)
+known_else s c sound light idle (known h) = h
 
 pub light_from : (s : State) (c : Clause) → (Barred s c → ⊥) → clause_size c ≤ 512
 light_from s c keep = at (cases (clause_size c))

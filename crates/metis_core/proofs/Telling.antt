@@ -4,7 +4,7 @@ use Rattle.std.proofs.lemmas.List.{length_push, map-append, drop_more, drop_all,
 use Rattle.std.proofs.lemmas.Option.{get_or_from_slice_get, slice_get_within}
 use Rattle.std.proofs.lemmas.List.Elements.{All-weaker}
 use Rattle.fo_terms.specs.declared.clause.Clause.{Clause}
-use Rattle.fo_infer.specs.declared.made.Made.{Made}
+use Rattle.fo_light.specs.declared.made.FlatMade.{FlatMade}
 use Rattle.fo_infer.specs.declared.refutation.Line.{Line}
 use Rattle.fo_infer.specs.Inferences.{Position}
 use Rattle.fo_infer.specs.Lines.{Follows, FollowFrom}
@@ -69,14 +69,14 @@ grows_added old new line (inl same) = let size = ap length same in omega arith
 grows_added old new line (inr more) = let size : length new ≡ length old + 1 = ap length more ∙ length_push old line in omega arith
 
 -- what is still to be offered follows then too
-pub ahead_added : (position : Position) (inputs : List Clause) (premises : Premises) (old new : List Line) (line : Line) (made : List Made) → AddsLine (Ok tt) old new line
-    → All (λ m. Follows position inputs (clauses old) (origin_of premises m.rule) m.clause) made → All (λ m. Follows position inputs (clauses new) (origin_of premises m.rule) m.clause) made
-ahead_added position inputs premises old new line made (inl same) h = subst (λ l. All (λ m. Follows position inputs (clauses l) (origin_of premises m.rule) m.clause) made) (sym same) h
+pub ahead_added : (position : Position) (inputs : List Clause) (premises : Premises) (old new : List Line) (line : Line) (made : List FlatMade) → AddsLine (Ok tt) old new line
+    → All (λ m. Follows position inputs (clauses old) (origin_of premises m.rule) (record { literals = m.clause })) made → All (λ m. Follows position inputs (clauses new) (origin_of premises m.rule) (record { literals = m.clause })) made
+ahead_added position inputs premises old new line made (inl same) h = subst (λ l. All (λ m. Follows position inputs (clauses l) (origin_of premises m.rule) (record { literals = m.clause })) made) (sym same) h
 ahead_added position inputs premises old new line made (inr more) h =
-    subst (λ l. All (λ m. Follows position inputs (clauses l) (origin_of premises m.rule) m.clause) made) (sym more)
-    (subst (λ l. All (λ m. Follows position inputs l (origin_of premises m.rule) m.clause) made) (sym (map-append (λ l. l.clause) old (line ∷ [])))
-    (All-weaker (λ m. Follows position inputs (clauses old) (origin_of premises m.rule) m.clause) (λ m. Follows position inputs (clauses old ++ line.clause ∷ []) (origin_of premises m.rule) m.clause)
-    (λ m follows. follows_grow position inputs (clauses old) (line.clause ∷ []) (origin_of premises m.rule) m.clause follows) made h))
+    subst (λ l. All (λ m. Follows position inputs (clauses l) (origin_of premises m.rule) (record { literals = m.clause })) made) (sym more)
+    (subst (λ l. All (λ m. Follows position inputs l (origin_of premises m.rule) (record { literals = m.clause })) made) (sym (map-append (λ l. l.clause) old (line ∷ [])))
+    (All-weaker (λ m. Follows position inputs (clauses old) (origin_of premises m.rule) (record { literals = m.clause })) (λ m. Follows position inputs (clauses old ++ line.clause ∷ []) (origin_of premises m.rule) (record { literals = m.clause }))
+    (λ m follows. follows_grow position inputs (clauses old) (line.clause ∷ []) (origin_of premises m.rule) (record { literals = m.clause }) follows) made h))
 
 -- ---- a call within a walk: what is left decides the whole
 

@@ -17,6 +17,8 @@ use Rattle.metis_core.specs.Pick.{IsOldest, IsLightest}
 use Rattle.metis_core.specs.Offer.{Passed, on, over, found, spent, most_kept}
 use Rattle.metis_core.specs.Search.{position_of}
 use Rattle.metis_core.specs.Stock.{IsIndex, AreMarks, clauses}
+use Rattle.metis_core.specs.Units.{AreParted}
+use Rattle.metis_core.specs.Reach.{AreReach}
 
 -- the state that the stock holds
 abbrev pub state_of : Stock → State
@@ -27,13 +29,16 @@ pub record IsSound (stock : Stock) : Type 0 where
   pub index : IsIndex stock.places stock.lines
   pub active : All (λ n. n < length stock.lines) stock.active
   pub waiting : All (λ e. e.number < length stock.lines) stock.waiting
-  pub marks : AreMarks stock.lines stock.active stock.marks
+  pub parted : AreParted stock.lines stock.active stock.rest stock.units
+  pub marks : AreMarks stock.lines stock.rest stock.marks
+  pub reach : AreReach stock.positions stock.lines stock.active stock.reach
   pub few : length stock.lines ≤ most_kept
 
--- besides, each line follows by its origin
+-- besides, each line follows by its origin, and equations are put where they are to be
 pub record IsRunning (given : Given) (stock : Stock) : Type 0 where
   pub sound : IsSound stock
   pub follow : FollowFrom (position_of given.positions) given.inputs [] stock.lines
+  pub same : stock.positions ≡ given.positions
 
 -- a call's answer on how the search goes on, where the stock then holds the state s; want of memory tells nothing
 abbrev pub Told : Result (Unit {0}) Stop → State → (Passed → Type 0) → Type 0
@@ -74,4 +79,5 @@ pub record Activates (oldest : Bool) (old new : Stock) (number : ℕ) : Type 0 w
   pub waiting : new.waiting ≡ without number old.waiting
   pub active : new.active ≡ old.active ++ number ∷ []
   pub lines : new.lines ≡ old.lines
+  pub positions : new.positions ≡ old.positions
   pub sound : IsSound new

@@ -6,6 +6,8 @@ pub mod Closed
 pub mod Ends
 pub mod Print
 pub mod Stock
+pub mod Units
+pub mod Reach
 pub mod Held
 pub mod Searched
 pub mod Inside

@@ -28,10 +28,10 @@ IsIndex m lines = (n : ℕ) (l : Line) → slice_get lines n ≡ Some l → Cont
 abbrev pub clauses : List Line → List Clause
 clauses lines = map (λ l. l.clause) lines
 
--- the marks of the active clauses' symbols, in their order
-pub record AreMarks (lines : List Line) (active marks : List ℕ) : Type 0 where
-  pub as_many : length marks ≡ length active
-  pub each : (k : ℕ) (p : Clause) → k < length active → slice_get (clauses lines) (slice_index_or active k 0) ≡ Some p → slice_index_or marks k 0 ≡ clause_symbols p
+-- the marks of the symbols of the clauses of these numbers, in their order
+pub record AreMarks (lines : List Line) (numbers marks : List ℕ) : Type 0 where
+  pub as_many : length marks ≡ length numbers
+  pub each : (k : ℕ) (p : Clause) → k < length numbers → slice_get (clauses lines) (slice_index_or numbers k 0) ≡ Some p → slice_index_or marks k 0 ≡ clause_symbols p
 
 -- the line of this number holds the clause
 abbrev pub IsLine : List Line → Clause → ℕ → Type 0

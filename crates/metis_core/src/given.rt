@@ -1,3 +1,6 @@
+ghost use Rattle.std.specs.Prelude.{◌≡◌};
+ghost use Rattle.metis_core.specs.Reach.{plain};
+
 use fo_terms::Clause;
 use text_kit::Rows;
 
@@ -8,6 +11,16 @@ pub enum Positions {
     Tagged,
     /// those of all subterms that are no variables, but for whole atoms that are no equations
     Plain,
+}
+
+/// Whether the positions are those of all subterms.
+pub fn is_plain(positions: Positions) -> bool
+    ensures { result ≡ plain positions }
+{
+    match positions {
+        Positions::Tagged => false,
+        Positions::Plain => true,
+    }
 }
 
 /// What a search is given.

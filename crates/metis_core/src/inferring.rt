@@ -1,5 +1,7 @@
-ghost use Rattle.std.specs.Prelude.{◌≡◌, ◌<◌, ◌≤◌, ◌∷◌, ◌≢◌, [], IfOk, OnOk, length, take};
+ghost use Rattle.std.specs.Prelude.{◌≡◌, ◌<◌, ◌≤◌, ◌∷◌, ◌≢◌, [], List, map, IfOk, OnOk, Some, slice_get, length, take};
+ghost use Rattle.fo_infer.specs.declared.made.Made.{Made};
 ghost use Rattle.fo_infer.specs.Inferences.{BetweenAt};
+ghost use Rattle.fo_light.specs.Light.{as_made, light};
 ghost use Rattle.metis_core.specs.Offer.{Offer, Through};
 ghost use Rattle.metis_core.specs.Search.{position_of, Infers, Inferred, Pick, normal_forms, pairs};
 ghost use Rattle.metis_core.specs.declared.premises.Premises.{Premises};
@@ -7,10 +9,12 @@ ghost use Rattle.metis_core.specs.Held.{state_of, IsRunning, IsSound, Told, Ends
 
 use crate::given::{Given, Positions};
 use crate::premises::Premises;
-use crate::stock::{Stock, activate, offer};
+use crate::stock::{Stock, activate, offer, offer_flat};
 use crate::stop::Stop;
-use fo_infer::{Made, Origin, Rule, alone, between, between_plain};
+use fo_infer::{Origin, Rule};
+use fo_light::{FlatMade, alone_light, between_light};
 use fo_terms::Clause;
+use pair_marks::may_infer;
 use std::alloc::Global;
 use text_kit::{NoMemory, Rows};
 
@@ -19,12 +23,12 @@ fn between_at(
     positions: Positions,
     p: &Clause,
     q: &Clause,
-) -> Result<Rows<Made>, NoMemory>
-    ensures { IfOk result (λ made. BetweenAt (position_of positions) p.now q.now made) }
+) -> Result<Rows<FlatMade>, NoMemory>
+    ensures { IfOk result (λ made. (all : List Made) × BetweenAt (position_of positions) p.now q.now all × (map as_made made ≡ light all)) }
 {
     match positions {
-        Positions::Tagged => Ok(between(alloc, p, q)?),
-        Positions::Plain => Ok(between_plain(alloc, p, q)?),
+        Positions::Tagged => Ok(between_light(alloc, false, p, q)?),
+        Positions::Plain => Ok(between_light(alloc, true, p, q)?),
     }
 }
 
@@ -32,12 +36,12 @@ fn inferences(
     positions: Positions,
     stock: &Stock,
     premises: Premises,
-) -> Result<Rows<Made>, NoMemory>
+) -> Result<Rows<FlatMade>, NoMemory>
     requires { ArePremises (length stock.now.lines) premises }
-    ensures { IfOk result (λ made. Infers positions (state_of stock.now) premises made) }
+    ensures { IfOk result (λ made. (all : List Made) × Infers positions (state_of stock.now) premises all × (map as_made made ≡ light all)) }
 {
     match premises {
-        Premises::One(n) => Ok(alone(stock.alloc, &stock.lines.at(n as usize).clause)?),
+        Premises::One(n) => Ok(alone_light(stock.alloc, &stock.lines.at(n as usize).clause)?),
         Premises::Two(n, m) => {
             let left = &stock.lines.at(n as usize).clause;
             let right = &stock.lines.at(m as usize).clause;
@@ -74,10 +78,34 @@ fn infer(given: &Given, stock: &mut Stock, premises: Premises) -> Result<(), Sto
 {
     let made = inferences(given.positions, &*stock, premises)?;
     for m in made.into_vec() {
-        let Made { clause, rule } = m;
-        offer(stock, clause, origin(premises, rule))?;
+        let FlatMade { clause, rule } = m;
+        offer_flat(stock, &clause, origin(premises, rule))?;
     }
     Ok(())
+}
+
+/// An active clause: its place among the active ones, and its number.
+#[derive(Clone, Copy)]
+struct Active {
+    place: usize,
+    number: u32,
+}
+
+/// Offers all inferences of two active clauses, which are looked for only where their marks don't rule them out.
+fn infer_pair(given: &Given, stock: &mut Stock, left: Active, right: Active) -> Result<(), Stop>
+    requires running { IsRunning given.now stock.old }
+    requires left { slice_get stock.old.active left.place ≡ Some left.number }
+    requires right { slice_get stock.old.active right.place ≡ Some right.number }
+    ensures running { OnOk result (IsRunning given.now stock.new) }
+    ensures active { OnOk result (stock.new.active ≡ stock.old.active) }
+    ensures grows { OnOk result (length stock.old.lines ≤ length stock.new.lines) }
+    ensures inferred { Told result (state_of stock.new) (Inferred given.now.positions (state_of stock.old) (Premises.Two left.number right.number)) }
+    ensures ends { Ends given.now result stock.new.lines }
+{
+    if !may_infer(stock.reach.at(left.place), stock.reach.at(right.place)) {
+        return Ok(());
+    }
+    infer(given, stock, Premises::Two(left.number, right.number))
 }
 
 /// Offers the inferences of the given clause: alone, and then with each active clause, itself the last.
@@ -85,17 +113,26 @@ fn infer_all(given: &Given, stock: &mut Stock, g: u32, earlier: usize) -> Result
     requires running { IsRunning given.now stock.old }
     requires kept { g < length stock.old.lines }
     requires within { earlier ≤ length stock.old.active }
+    requires last { slice_get stock.old.active earlier ≡ Some g }
     ensures running { OnOk result (IsRunning given.now stock.new) }
     ensures inferred { Told result (state_of stock.new) (Through (Inferred given.now.positions) (state_of stock.old) (Premises.One g ∷ pairs g (take earlier stock.old.active))) }
     ensures ends { Ends given.now result stock.new.lines }
 {
     infer(given, stock, Premises::One(g))?;
+    let last = Active {
+        place: earlier,
+        number: g,
+    };
     for i in 0..earlier {
         let a = *stock.active.at(i);
-        infer(given, stock, Premises::Two(a, g))?;
-        infer(given, stock, Premises::Two(g, a))?;
+        let other = Active {
+            place: i,
+            number: a,
+        };
+        infer_pair(given, stock, other, last)?;
+        infer_pair(given, stock, last, other)?;
     }
-    infer(given, stock, Premises::Two(g, g))?;
+    infer_pair(given, stock, last, last)?;
     Ok(())
 }
 
@@ -118,6 +155,8 @@ pub fn pick(given: &Given, stock: &mut Stock, number: u32) -> Result<(), Stop>
 pub fn offer_inputs(given: &Given, stock: &mut Stock) -> Result<(), Stop>
     requires sound { IsSound stock.old }
     requires lines { stock.old.lines ≡ [] }
+    requires positions { stock.old.positions ≡ given.now.positions }
+    requires idle { stock.old.active ≡ [] }
     ensures running { OnOk result (IsRunning given.now stock.new) }
     ensures offered { Told result (state_of stock.new) (Through Offer (state_of stock.old) (normal_forms given.now.inputs)) }
     ensures ends { Ends given.now result stock.new.lines }

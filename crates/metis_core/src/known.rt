@@ -2,7 +2,7 @@ ghost use Rattle.std.specs.Prelude.{◌≡◌, ◌≢◌, ◌↔◌, ℕ, nat_eq
 ghost use Rattle.std.specs.HashMap.{get};
 ghost use Rattle.metis_core.specs.Stock.{places_at, Notes, IsIndex, IsLine, clauses};
 
-use crate::print::print_of;
+use fo_cells::{FlatClause, print_of};
 use fo_infer::Line;
 use fo_terms::Clause;
 use std::alloc::Global;
@@ -31,6 +31,38 @@ fn is_at(places: &[u32], lines: &[Line], c: &Clause) -> bool
         }
     }
     false
+}
+
+fn is_flat_line(lines: &[Line], n: u32, c: &FlatClause) -> bool
+    ensures { IsTrue result ↔ IsLine lines.now (record { literals = c.now }) n }
+{
+    let at = n as usize;
+    if at >= lines.len() {
+        return false;
+    }
+    c.is_clause(&lines[at].clause)
+}
+
+fn is_flat_at(places: &[u32], lines: &[Line], c: &FlatClause) -> bool
+    ensures { IsTrue result ↔ Any (IsLine lines.now (record { literals = c.now })) places.now }
+{
+    for n in places {
+        if is_flat_line(lines, *n, c) {
+            return true;
+        }
+    }
+    false
+}
+
+/// Whether a line holds the clause of these literals. It takes no memory.
+pub fn is_flat_known(known: &Places, lines: &[Line], c: &FlatClause) -> bool
+    requires { IsIndex known.now lines.now }
+    ensures { IsTrue result ↔ Contains (clauses lines.now) (record { literals = c.now }) }
+{
+    match known.get(&c.print()) {
+        Some(places) => is_flat_at(places.as_slice(), lines, c),
+        None => false,
+    }
 }
 
 /// Whether a line holds the clause. It takes no memory.

@@ -6,11 +6,11 @@ mod inferring;
 mod known;
 mod laws;
 mod premises;
-mod print;
 mod search;
 mod stock;
 mod stop;
 mod turn;
+mod units;
 mod waiting;
 
 pub use given::{Given, Positions};
@@ -18,6 +18,3 @@ pub use laws::search_is_definite;
 pub use search::Search;
 pub use turn::Turn;
 pub use waiting::Entry;
-
-#[cfg(test)]
-mod tests;

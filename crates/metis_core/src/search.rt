@@ -77,7 +77,7 @@ fn begin_with(alloc: Global, given: Given) -> Result<Search, NoMemory>
     ensures picks { IfOk result (λ s. s.picks ≡ 0) }
     ensures stands { IfOk result Stands }
 {
-    let mut stock = empty_stock(alloc);
+    let mut stock = empty_stock(alloc, given.positions);
     let told = offer_inputs(&given, &mut stock);
     let reached = settle(&mut stock, told);
     if reached == Turn::NoMemory {

@@ -1,4 +1,4 @@
-ghost use Rattle.std.specs.Prelude.{◌≡◌, ◌≢◌, ◌↔◌, ◌<◌, ◌≤◌, ◌++◌, ◌∷◌, [], IsTrue, IfOk, OnOk, Some, slice_get, slice_index_or, length, MatchBool, MatchOption};
+ghost use Rattle.std.specs.Prelude.{◌≡◌, ◌≢◌, true, false, ◌↔◌, ◌<◌, ◌≤◌, ◌++◌, ◌∷◌, [], IsTrue, IfOk, OnOk, Some, slice_get, slice_index_or, length, MatchBool, MatchOption};
 ghost use Rattle.fo_infer.specs.Symbols.{clause_symbols};
 ghost use Rattle.metis_core.specs.Stock.{clauses};
 ghost use Rattle.fo_terms.specs.declared.clause.Clause.{Clause};
@@ -8,16 +8,21 @@ ghost use Rattle.metis_core.specs.State.{keeping, without, IsActive};
 ghost use Rattle.metis_core.specs.Offer.{Barred, Offer, most_kept};
 ghost use Rattle.metis_core.specs.Pick.{IsOldest, IsLightest};
 ghost use Rattle.metis_core.specs.Held.{state_of, IsSound, Told, AddsLine, Activates};
+ghost use Rattle.metis_core.specs.Units.{IsAmong};
 
-use crate::known::{Places, is_known, note};
-use crate::print::print_of;
+use crate::given::{Positions, is_plain};
+use crate::known::{Places, is_flat_known, is_known, note};
 use crate::stop::Stop;
+use crate::units::{as_unit, is_unit_subsumed, put_unit};
 use crate::waiting::{Entry, Waiting};
+use fo_cells::{FlatClause, print_of};
 use fo_infer::{Line, Origin, may_subsume, subsumes, symbols_of};
 use fo_terms::Clause;
+use pair_marks::{PairMarks, marks_of};
 use std::alloc::Global;
 use std::collections::HashMap;
 use text_kit::{NoMemory, Rows};
+use unit_tree::UnitTree;
 
 /// The most clauses that a search keeps.
 pub const MOST_KEPT: usize = 20_000;
@@ -32,49 +37,63 @@ pub struct Stock {
     pub lines: Rows<Line>,
     pub places: Places,
     pub active: Rows<u32>,
-    /// the marks of the active clauses' symbols, in their order
+    /// what the active clauses need and offer in inferences, in their order
+    pub reach: Rows<PairMarks>,
+    /// where equations are put in
+    pub positions: Positions,
+    /// the active clauses of one literal
+    pub units: Option<UnitTree>,
+    /// the other active clauses
+    pub rest: Rows<u32>,
+    /// the marks of the symbols of these others, in their order
     pub marks: Rows<u64>,
     pub waiting: Waiting,
 }
 
-/// Holds nothing. It takes no memory.
-pub fn empty_stock(alloc: Global) -> Stock
+/// Holds nothing, for a search that puts equations into these positions. It takes no memory.
+pub fn empty_stock(alloc: Global, positions: Positions) -> Stock
     ensures sound { IsSound result }
     ensures lines { result.lines ≡ [] }
     ensures active { result.active ≡ [] }
     ensures waiting { result.waiting ≡ [] }
+    ensures positions { result.positions ≡ positions }
 {
     Stock {
         alloc,
         lines: Rows::begin(alloc),
         places: HashMap::new(alloc),
         active: Rows::begin(alloc),
+        reach: Rows::begin(alloc),
+        positions,
+        units: None,
+        rest: Rows::begin(alloc),
         marks: Rows::begin(alloc),
         waiting: Waiting::begin(alloc),
     }
 }
 
-/// Whether the active clause at this place, whose marks are looked at first, subsumes the clause with these marks.
+/// Whether the clause at this place among the rest, whose marks are looked at first, subsumes the clause with these marks.
 fn is_subsumed_at(stock: &Stock, k: usize, c: &Clause, marks: u64) -> Result<bool, NoMemory>
     requires sound { IsSound stock.now }
-    requires place { k < length stock.now.active }
+    requires place { k < length stock.now.rest }
     requires marks { marks ≡ clause_symbols c.now }
-    ensures { IfOk result (λ b. (p : Clause) → slice_get (clauses stock.now.lines) (slice_index_or stock.now.active k 0) ≡ Some p → IsTrue b ↔ Subsumes p c.now) }
+    ensures { IfOk result (λ b. (p : Clause) → slice_get (clauses stock.now.lines) (slice_index_or stock.now.rest k 0) ≡ Some p → IsTrue b ↔ Subsumes p c.now) }
 {
     if !may_subsume(*stock.marks.at(k), marks) {
         return Ok(false);
     }
-    let n = *stock.active.at(k);
+    let n = *stock.rest.at(k);
     let made = subsumes(stock.alloc, &stock.lines.at(n as usize).clause, c)?;
     Ok(made)
 }
 
+/// Whether one of the rest of the active clauses subsumes the clause.
 fn is_subsumed(stock: &Stock, c: &Clause) -> Result<bool, NoMemory>
     requires { IsSound stock.now }
-    ensures { IfOk result (λ b. IsTrue b ↔ ((p : Clause) × IsActive (state_of stock.now) p × Subsumes p c.now)) }
+    ensures { IfOk result (λ b. IsTrue b ↔ ((p : Clause) × IsAmong stock.now.rest stock.now.lines p × Subsumes p c.now)) }
 {
     let marks = symbols_of(c);
-    for k in 0..stock.active.len() {
+    for k in 0..stock.rest.len() {
         if is_subsumed_at(stock, k, c, marks)? {
             return Ok(true);
         }
@@ -82,20 +101,19 @@ fn is_subsumed(stock: &Stock, c: &Clause) -> Result<bool, NoMemory>
     Ok(false)
 }
 
-fn is_barred(stock: &Stock, c: &Clause) -> Result<bool, NoMemory>
-    requires { IsSound stock.now }
-    ensures { IfOk result (λ b. IsTrue b ↔ Barred (state_of stock.now) c.now) }
+/// Whether a clause is kept out while no clause is active.
+fn is_barred(stock: &Stock, c: &Clause) -> bool
+    requires sound { IsSound stock.now }
+    requires idle { stock.now.active ≡ [] }
+    ensures { IsTrue result ↔ Barred (state_of stock.now) c.now }
 {
     if c.weight() > HEAVIEST {
-        return Ok(true);
+        return true;
     }
     if c.is_tautology() {
-        return Ok(true);
+        return true;
     }
-    if is_known(&stock.places, stock.lines.as_slice(), c) {
-        return Ok(true);
-    }
-    Ok(is_subsumed(stock, c)?)
+    is_known(&stock.places, stock.lines.as_slice(), c)
 }
 
 fn keep(stock: &mut Stock, clause: Clause, origin: Origin) -> Result<(), NoMemory>
@@ -105,6 +123,7 @@ fn keep(stock: &mut Stock, clause: Clause, origin: Origin) -> Result<(), NoMemor
     ensures sound { OnOk result (IsSound stock.new) }
     ensures lines { OnOk result (stock.new.lines ≡ stock.old.lines ++ record { clause = clause; origin = origin } ∷ []) }
     ensures active { OnOk result (stock.new.active ≡ stock.old.active) }
+    ensures positions { OnOk result (stock.new.positions ≡ stock.old.positions) }
     ensures state { OnOk result (state_of stock.new ≡ keeping (state_of stock.old) clause) }
 {
     let number = stock.lines.len() as u32;
@@ -115,18 +134,70 @@ fn keep(stock: &mut Stock, clause: Clause, origin: Origin) -> Result<(), NoMemor
     Ok(())
 }
 
-/// Offers a clause in normal form.
+/// Offers a clause in normal form while no clause is active.
 pub fn offer(stock: &mut Stock, clause: Clause, origin: Origin) -> Result<(), Stop>
-    requires { IsSound stock.old }
+    requires sound { IsSound stock.old }
+    requires idle { stock.old.active ≡ [] }
     ensures sound { OnOk result (IsSound stock.new) }
     ensures active { OnOk result (stock.new.active ≡ stock.old.active) }
+    ensures positions { OnOk result (stock.new.positions ≡ stock.old.positions) }
     ensures offered { Told result (state_of stock.new) (Offer (state_of stock.old) clause) }
     ensures line { AddsLine result stock.old.lines stock.new.lines (record { clause = clause; origin = origin }) }
 {
     if clause.literals.len() == 0 {
         return Err(Stop::Found(Line { clause, origin }));
     }
-    if is_barred(&*stock, &clause)? {
+    if is_barred(&*stock, &clause) {
+        return Ok(());
+    }
+    if stock.lines.len() >= MOST_KEPT {
+        return Err(Stop::Full);
+    }
+    keep(stock, clause, origin)?;
+    Ok(())
+}
+
+/// Whether a clause is kept out before it stands as a tree: it is too heavy, or a tautology, or kept already. Then only an active clause
+/// that subsumes it can keep it out.
+fn is_soon_barred(stock: &Stock, c: &FlatClause) -> bool
+    requires { IsSound stock.now }
+    ensures barred { result ≡ true → Barred (state_of stock.now) (record { literals = c.now }) }
+    ensures light { result ≡ false → clause_size (record { literals = c.now }) ≤ 512 }
+    ensures left { result ≡ false → Barred (state_of stock.now) (record { literals = c.now }) → ((p : Clause) × IsActive (state_of stock.now) p × Subsumes p (record { literals = c.now })) }
+{
+    if c.weight() > HEAVIEST {
+        return true;
+    }
+    if c.is_tautology() {
+        return true;
+    }
+    if is_flat_known(&stock.places, stock.lines.as_slice(), c) {
+        return true;
+    }
+    false
+}
+
+/// Offers a clause in normal form whose literals stand as cells.
+pub fn offer_flat(stock: &mut Stock, flat: &FlatClause, origin: Origin) -> Result<(), Stop>
+    requires { IsSound stock.old }
+    ensures sound { OnOk result (IsSound stock.new) }
+    ensures active { OnOk result (stock.new.active ≡ stock.old.active) }
+    ensures positions { OnOk result (stock.new.positions ≡ stock.old.positions) }
+    ensures offered { Told result (state_of stock.new) (Offer (state_of stock.old) (record { literals = flat.now })) }
+    ensures line { AddsLine result stock.old.lines stock.new.lines (record { clause = record { literals = flat.now }; origin = origin }) }
+{
+    if flat.len() == 0 {
+        let clause = flat.to_clause(stock.alloc)?;
+        return Err(Stop::Found(Line { clause, origin }));
+    }
+    if is_soon_barred(&*stock, flat) {
+        return Ok(());
+    }
+    if is_unit_subsumed(&stock.units, flat) {
+        return Ok(());
+    }
+    let clause = flat.to_clause(stock.alloc)?;
+    if is_subsumed(&*stock, &clause)? {
         return Ok(());
     }
     if stock.lines.len() >= MOST_KEPT {
@@ -145,6 +216,34 @@ fn take_next(waiting: &mut Waiting, oldest: bool) -> Option<Entry>
     waiting.pick_light()
 }
 
+/// Puts a kept clause among the active ones, with its marks: into the tree where it is one literal, or among the rest.
+fn put_active(stock: &mut Stock, number: u32) -> Result<(), NoMemory>
+    requires sound { IsSound stock.old }
+    requires within { number < length stock.old.lines }
+    ensures sound { OnOk result (IsSound stock.new) }
+    ensures active { OnOk result (stock.new.active ≡ stock.old.active ++ number ∷ []) }
+    ensures lines { OnOk result (stock.new.lines ≡ stock.old.lines) }
+    ensures waiting { OnOk result (stock.new.waiting ≡ stock.old.waiting) }
+    ensures positions { OnOk result (stock.new.positions ≡ stock.old.positions) }
+{
+    stock.active.push(number)?;
+    let clause = &stock.lines.at(number as usize).clause;
+    let reach = marks_of(stock.alloc, is_plain(stock.positions), clause)?;
+    stock.reach.push(reach)?;
+    match as_unit(clause, stock.alloc)? {
+        Some(unit) => {
+            put_unit(&mut stock.units, stock.alloc, &unit)?;
+            Ok(())
+        }
+        None => {
+            let marks = symbols_of(clause);
+            stock.marks.push(marks)?;
+            stock.rest.push(number)?;
+            Ok(())
+        }
+    }
+}
+
 /// Makes a waiting clause active, the oldest or else the lightest one, and answers its number.
 pub fn activate(stock: &mut Stock, oldest: bool) -> Result<u32, NoMemory>
     requires sound { IsSound stock.old }
@@ -153,9 +252,7 @@ pub fn activate(stock: &mut Stock, oldest: bool) -> Result<u32, NoMemory>
 {
     match take_next(&mut stock.waiting, oldest) {
         Some(entry) => {
-            let marks = symbols_of(&stock.lines.at(entry.number as usize).clause);
-            stock.marks.push(marks)?;
-            stock.active.push(entry.number)?;
+            put_active(stock, entry.number)?;
             Ok(entry.number)
         }
         None => unreachable!(),

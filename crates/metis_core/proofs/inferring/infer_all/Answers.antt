@@ -1,12 +1,12 @@
-use Rattle.std.proofs.Common.{◌≡◌, ◌+◌, ◌∷◌, [], length, take, drop, ap, ◌∙◌, refl, arith, Err}
+use Rattle.std.proofs.Common.{◌≡◌, ◌+◌, ◌∷◌, [], take, drop, ap, ◌∙◌, refl, arith, Err}
 use Rattle.std.proofs.lemmas.Result.{err_from_is_err_and}
 use Rattle.metis_core.specs.declared.premises.Premises.TheVariants.{One, Two}
 use Rattle.metis_core.specs.Offer.{Through, Passed, on, done}
 use Rattle.metis_core.specs.Search.{Inferred, pairs}
 use Rattle.metis_core.specs.Held.{state_of}
-use Rattle.metis_core.proofs.Telling.{exit, after, pairs_at, pairs_end, earlier_within, earlier_at, earlier_end, number_below}
+use Rattle.metis_core.proofs.Telling.{exit, after, pairs_at, pairs_end, earlier_within, earlier_at, earlier_end}
 use Rattle.metis_core.proofs.inferring.infer_all.Goals as goal
-use Rattle.metis_core.proofs.inferring.infer_all.Goals.{After-at-a, In_ok-infer-2, After-loop-i}
+use Rattle.metis_core.proofs.inferring.infer_all.Goals.{After-at-a, In_ok-infer_pair, After-loop-i}
 
 -- ---- the given clause alone
 
@@ -39,47 +39,36 @@ left_at c =
     (earlier_within now before c.args.earlier c.loop-i.i c.at-a.result.now c.loop-i.invariant.active c.loop-i-test.true c.requires.within c.at-a.ensures)
     (earlier_at now before c.args.earlier c.loop-i.i c.at-a.result.now c.loop-i.invariant.active c.loop-i-test.true c.requires.within c.at-a.ensures)
 
-pub infer-requires-in-loop-i-clause-within : goal.infer-requires-in-loop-i-clause-within
-infer-requires-in-loop-i-clause-within c = (
-  number_below c.loop-i.stock.active c.loop-i.i c.at-a.result.now (length c.loop-i.stock.lines) c.loop-i.invariant.running.sound.active c.at-a.ensures,
-  omega (arith, c.requires.kept, c.loop-i.invariant.grows),
-)
-
-pub returns-in_err-infer-2-clause-inferred : goal.returns-in_err-infer-2-clause-inferred
-returns-in_err-infer-2-clause-inferred c =
-    let p = err_from_is_err_and c.from_residual-in_err-infer-2.result c.from_residual-in_err-infer-2.ensures.1 in
+pub returns-in_err-infer_pair-clause-inferred : goal.returns-in_err-infer_pair-clause-inferred
+returns-in_err-infer_pair-clause-inferred c =
+    let p = err_from_is_err_and c.from_residual-in_err-infer_pair.result c.from_residual-in_err-infer_pair.ensures.1 in
     let before = take c.args.earlier c.args.stock.now.active in
     let a = c.at-a.result.now in
-    exit (Inferred c.args.given.now.positions) (state_of c.args.stock.now) (state_of c.loop-i.stock) (state_of c.infer-in-loop-i.new.stock) (One c.args.g ∷ pairs c.args.g before)
+    exit (Inferred c.args.given.now.positions) (state_of c.args.stock.now) (state_of c.loop-i.stock) (state_of c.infer_pair.new.stock) (One c.args.g ∷ pairs c.args.g before)
     (pairs c.args.g (drop c.loop-i.i before)) (Two c.args.g a ∷ pairs c.args.g (drop (c.loop-i.i + 1) before)) (Two a c.args.g) c.loop-i.invariant.whole
-    (left_at (goal.at.returns-in_err-infer-2-clause-inferred c).After-at-a) c.from_residual-in_err-infer-2.result c.in_err-infer-2.field-0.0 (p.1 ∙ ap Err p.2) c.in_err-infer-2.ensures.inferred
+    (left_at (goal.at.returns-in_err-infer_pair-clause-inferred c).After-at-a) c.from_residual-in_err-infer_pair.result c.in_err-infer_pair.field-0.0 (p.1 ∙ ap Err p.2) c.in_err-infer_pair.ensures.inferred
 
-pub infer-requires-in-loop-i-2-clause-within : goal.infer-requires-in-loop-i-2-clause-within
-infer-requires-in-loop-i-2-clause-within c =
-    let below = number_below c.loop-i.stock.active c.loop-i.i c.at-a.result.now (length c.loop-i.stock.lines) c.loop-i.invariant.running.sound.active c.at-a.ensures in
-    (omega (arith, c.requires.kept, c.loop-i.invariant.grows, c.in_ok-infer-2.ensures.grows), omega (arith, c.in_ok-infer-2.ensures.grows))
-
-right_at : (c : In_ok-infer-2) → pairs c.args.g (drop c.loop-i.i (take c.args.earlier c.args.stock.now.active))
+right_at : (c : In_ok-infer_pair) → pairs c.args.g (drop c.loop-i.i (take c.args.earlier c.args.stock.now.active))
     ≡ Two c.at-a.result.now c.args.g ∷ (Two c.args.g c.at-a.result.now ∷ pairs c.args.g (drop (c.loop-i.i + 1) (take c.args.earlier c.args.stock.now.active)))
-    → (out : Passed) → Through (Inferred c.args.given.now.positions) (state_of c.infer-in-loop-i.new.stock)
+    → (out : Passed) → Through (Inferred c.args.given.now.positions) (state_of c.infer_pair.new.stock)
     (Two c.args.g c.at-a.result.now ∷ pairs c.args.g (drop (c.loop-i.i + 1) (take c.args.earlier c.args.stock.now.active))) out
     → Through (Inferred c.args.given.now.positions) (state_of c.args.stock.now) (One c.args.g ∷ pairs c.args.g (take c.args.earlier c.args.stock.now.active)) out
 right_at c is =
     let before = take c.args.earlier c.args.stock.now.active in
     let a = c.at-a.result.now in
-    after (Inferred c.args.given.now.positions) (state_of c.args.stock.now) (state_of c.loop-i.stock) (state_of c.infer-in-loop-i.new.stock) (One c.args.g ∷ pairs c.args.g before)
+    after (Inferred c.args.given.now.positions) (state_of c.args.stock.now) (state_of c.loop-i.stock) (state_of c.infer_pair.new.stock) (One c.args.g ∷ pairs c.args.g before)
     (pairs c.args.g (drop c.loop-i.i before)) (Two c.args.g a ∷ pairs c.args.g (drop (c.loop-i.i + 1) before)) (Two a c.args.g) c.loop-i.invariant.whole
-    is c.in_ok-infer-2.ensures.inferred
+    is c.in_ok-infer_pair.ensures.inferred
 
-pub returns-in_err-infer-3-clause-inferred : goal.returns-in_err-infer-3-clause-inferred
-returns-in_err-infer-3-clause-inferred c =
-    let p = err_from_is_err_and c.from_residual-in_err-infer-3.result c.from_residual-in_err-infer-3.ensures.1 in
+pub returns-in_err-infer_pair-2-clause-inferred : goal.returns-in_err-infer_pair-2-clause-inferred
+returns-in_err-infer_pair-2-clause-inferred c =
+    let p = err_from_is_err_and c.from_residual-in_err-infer_pair-2.result c.from_residual-in_err-infer_pair-2.ensures.1 in
     let before = take c.args.earlier c.args.stock.now.active in
     let a = c.at-a.result.now in
     let rest = pairs c.args.g (drop (c.loop-i.i + 1) before) in
-    exit (Inferred c.args.given.now.positions) (state_of c.args.stock.now) (state_of c.infer-in-loop-i.new.stock) (state_of c.infer-in-loop-i-2.new.stock) (One c.args.g ∷ pairs c.args.g before)
-    (Two c.args.g a ∷ rest) rest (Two c.args.g a) (right_at (goal.at.returns-in_err-infer-3-clause-inferred c).In_ok-infer-2 (left_at (goal.at.returns-in_err-infer-3-clause-inferred c).After-at-a)) refl
-    c.from_residual-in_err-infer-3.result c.in_err-infer-3.field-0.0 (p.1 ∙ ap Err p.2) c.in_err-infer-3.ensures.inferred
+    exit (Inferred c.args.given.now.positions) (state_of c.args.stock.now) (state_of c.infer_pair.new.stock) (state_of c.infer_pair-in-loop-i.new.stock) (One c.args.g ∷ pairs c.args.g before)
+    (Two c.args.g a ∷ rest) rest (Two c.args.g a) (right_at (goal.at.returns-in_err-infer_pair-2-clause-inferred c).In_ok-infer_pair (left_at (goal.at.returns-in_err-infer_pair-2-clause-inferred c).After-at-a)) refl
+    c.from_residual-in_err-infer_pair-2.result c.in_err-infer_pair-2.field-0.0 (p.1 ∙ ap Err p.2) c.in_err-infer_pair-2.ensures.inferred
 
 pub loop-i-preserved : goal.loop-i-preserved
 loop-i-preserved c =
@@ -87,11 +76,11 @@ loop-i-preserved c =
     let a = c.at-a.result.now in
     let rest = pairs c.args.g (drop (c.loop-i.i + 1) before) in
     record {
-      running = c.in_ok-infer-3.ensures.running;
-      active = c.in_ok-infer-3.ensures.active ∙ c.in_ok-infer-2.ensures.active ∙ c.loop-i.invariant.active;
-      grows = omega (arith, c.loop-i.invariant.grows, c.in_ok-infer-2.ensures.grows, c.in_ok-infer-3.ensures.grows);
-      whole = after (Inferred c.args.given.now.positions) (state_of c.args.stock.now) (state_of c.infer-in-loop-i.new.stock) (state_of c.infer-in-loop-i-2.new.stock) (One c.args.g ∷ pairs c.args.g before)
-          (Two c.args.g a ∷ rest) rest (Two c.args.g a) (right_at (goal.at.loop-i-preserved c).In_ok-infer-2 (left_at (goal.at.loop-i-preserved c).After-at-a)) refl c.in_ok-infer-3.ensures.inferred;
+      running = c.in_ok-infer_pair-2.ensures.running;
+      active = c.in_ok-infer_pair-2.ensures.active ∙ c.in_ok-infer_pair.ensures.active ∙ c.loop-i.invariant.active;
+      grows = omega (arith, c.loop-i.invariant.grows, c.in_ok-infer_pair.ensures.grows, c.in_ok-infer_pair-2.ensures.grows);
+      whole = after (Inferred c.args.given.now.positions) (state_of c.args.stock.now) (state_of c.infer_pair.new.stock) (state_of c.infer_pair-in-loop-i.new.stock) (One c.args.g ∷ pairs c.args.g before)
+          (Two c.args.g a ∷ rest) rest (Two c.args.g a) (right_at (goal.at.loop-i-preserved c).In_ok-infer_pair (left_at (goal.at.loop-i-preserved c).After-at-a)) refl c.in_ok-infer_pair-2.ensures.inferred;
     }
 
 -- ---- with itself
@@ -99,17 +88,17 @@ loop-i-preserved c =
 last_at : (c : After-loop-i) → pairs c.args.g (drop c.loop-i.i (take c.args.earlier c.args.stock.now.active)) ≡ Two c.args.g c.args.g ∷ []
 last_at c = pairs_end c.args.g (take c.args.earlier c.args.stock.now.active) c.loop-i.i (earlier_end c.args.stock.now.active c.args.earlier c.loop-i.i c.loop-i-test.false)
 
-pub returns-in_err-infer-4-clause-inferred : goal.returns-in_err-infer-4-clause-inferred
-returns-in_err-infer-4-clause-inferred c =
-    let p = err_from_is_err_and c.from_residual-in_err-infer-4.result c.from_residual-in_err-infer-4.ensures.1 in
+pub returns-in_err-infer_pair-3-clause-inferred : goal.returns-in_err-infer_pair-3-clause-inferred
+returns-in_err-infer_pair-3-clause-inferred c =
+    let p = err_from_is_err_and c.from_residual-in_err-infer_pair-3.result c.from_residual-in_err-infer_pair-3.ensures.1 in
     let before = take c.args.earlier c.args.stock.now.active in
-    exit (Inferred c.args.given.now.positions) (state_of c.args.stock.now) (state_of c.loop-i.stock) (state_of c.infer-2.new.stock) (One c.args.g ∷ pairs c.args.g before)
-    (pairs c.args.g (drop c.loop-i.i before)) [] (Two c.args.g c.args.g) c.loop-i.invariant.whole (last_at (goal.at.returns-in_err-infer-4-clause-inferred c).After-loop-i)
-    c.from_residual-in_err-infer-4.result c.in_err-infer-4.field-0.0 (p.1 ∙ ap Err p.2) c.in_err-infer-4.ensures.inferred
+    exit (Inferred c.args.given.now.positions) (state_of c.args.stock.now) (state_of c.loop-i.stock) (state_of c.infer_pair-2.new.stock) (One c.args.g ∷ pairs c.args.g before)
+    (pairs c.args.g (drop c.loop-i.i before)) [] (Two c.args.g c.args.g) c.loop-i.invariant.whole (last_at (goal.at.returns-in_err-infer_pair-3-clause-inferred c).After-loop-i)
+    c.from_residual-in_err-infer_pair-3.result c.in_err-infer_pair-3.field-0.0 (p.1 ∙ ap Err p.2) c.in_err-infer_pair-3.ensures.inferred
 
 pub returns-clause-inferred : goal.returns-clause-inferred
 returns-clause-inferred c =
     let before = take c.args.earlier c.args.stock.now.active in
-    after (Inferred c.args.given.now.positions) (state_of c.args.stock.now) (state_of c.loop-i.stock) (state_of c.infer-2.new.stock) (One c.args.g ∷ pairs c.args.g before)
+    after (Inferred c.args.given.now.positions) (state_of c.args.stock.now) (state_of c.loop-i.stock) (state_of c.infer_pair-2.new.stock) (One c.args.g ∷ pairs c.args.g before)
     (pairs c.args.g (drop c.loop-i.i before)) [] (Two c.args.g c.args.g) c.loop-i.invariant.whole (last_at (goal.at.returns-clause-inferred c).After-loop-i)
-    c.in_ok-infer-4.ensures.inferred (on (state_of c.infer-2.new.stock)) done
+    c.in_ok-infer_pair-3.ensures.inferred (on (state_of c.infer_pair-2.new.stock)) done

@@ -41,7 +41,9 @@ loop-i-preserved c =
       running = record {
         sound = c.in_ok-offer.ensures.sound;
         follow = follow_added given c.loop-i.stock.lines c.offer.new.stock.lines line c.loop-i.invariant.running.follow here c.in_ok-offer.ensures.line;
+        same = c.in_ok-offer.ensures.positions ∙ c.loop-i.invariant.running.same;
       };
+      idle = c.in_ok-offer.ensures.active ∙ c.loop-i.invariant.idle;
       whole = after Offer (state_of c.args.stock.now) (state_of c.loop-i.stock) (state_of c.offer.new.stock) (normal_forms inputs) (normal_forms (drop c.loop-i.i inputs)) (normal_forms (drop (c.loop-i.i + 1) inputs)) c.in_ok-clause.clause
           c.loop-i.invariant.whole (form_at (goal.at.loop-i-preserved c).In_ok-clause) c.in_ok-offer.ensures.offered;
     }

@@ -6,6 +6,10 @@ use Rattle.fo_infer.specs.declared.refutation.Line.{Line}
 use Rattle.metis_core.specs.declared.waiting.Entry.{Entry}
 use Rattle.metis_core.proofs.Marks.{marks_grow}
 use Rattle.metis_core.proofs.Stocks.{index_grows, below_grows, entries_grow}
+use Rattle.metis_core.specs.Units.{AreParted}
+use Rattle.metis_core.specs.Reach.{AreReach}
+use Rattle.metis_core.proofs.Reach.{reach_grows}
+use Rattle.metis_core.proofs.Parted.{rest_below, parted_grows}
 use Rattle.metis_core.proofs.stock.keep.Goals as goal
 
 pub returns-clause-sound : goal.returns-clause-sound
@@ -21,6 +25,10 @@ returns-clause-sound c =
       active = below_grows old.active (length old.lines) (length c.push-2.new.self) (omega arith) c.requires.sound.active;
       waiting = subst (λ m. All (λ e. e.number < m) c.push.new.self) (sym more)
           (subst (All (λ e. e.number < length old.lines + 1)) (sym c.in_ok-push.ensures.ok) (entries_grow old.waiting entry (length old.lines) c.len-number.ensures c.requires.sound.waiting));
-      marks = subst (λ ls. AreMarks ls old.active old.marks) (sym c.in_ok-push-2.ensures.ok) (marks_grow old.lines line old.active old.marks c.requires.sound.active c.requires.sound.marks);
+      parted = subst (λ ls. AreParted ls old.active old.rest old.units) (sym c.in_ok-push-2.ensures.ok) (parted_grows old.lines line old.active old.rest old.units c.requires.sound.active c.requires.sound.parted);
+      marks = subst (λ ls. AreMarks ls old.rest old.marks) (sym c.in_ok-push-2.ensures.ok)
+          (marks_grow old.lines line old.rest old.marks (rest_below old.lines old.active old.rest old.units (λ n. n < length old.lines) c.requires.sound.parted c.requires.sound.active) c.requires.sound.marks);
+      reach = subst (λ ls. AreReach old.positions ls old.active old.reach) (sym c.in_ok-push-2.ensures.ok)
+          (reach_grows old.positions old.lines line old.active old.reach c.requires.sound.active c.requires.sound.reach);
       few = omega (arith, c.requires.room);
     }
