@@ -11,3 +11,6 @@ pub mod Kept
 pub mod Sound
 pub mod Answered
 pub mod SeenNames
+pub mod Seams
+pub mod Joined
+pub mod Apart

@@ -10,7 +10,7 @@ use text_kit::{Rows, Token, TokenFault, tokens};
 use theory_syntax::{Fault, Item, Tok, read};
 
 /// The greatest level of a token.
-const MAX_LEVEL: u32 = 256;
+pub(crate) const MAX_LEVEL: u32 = 256;
 
 /// The first byte of the token at a place, or the text's length behind the last.
 fn byte_of(text: &[u8], cut: &[Token], place: usize) -> u64

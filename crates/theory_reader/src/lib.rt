@@ -7,11 +7,10 @@ mod env;
 mod items;
 mod lookup;
 mod parts;
+mod piece;
 mod reader;
 mod seen;
 mod statement;
-#[cfg(test)]
-mod tests;
 mod theory;
 mod toks;
 

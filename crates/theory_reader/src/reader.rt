@@ -3,12 +3,14 @@ ghost use Rattle.theory_terms.specs.Answers.{Answer};
 ghost use Rattle.theory_reader.specs.Declarations.{Declarations};
 ghost use Rattle.theory_reader.specs.Declaring.{nothing, theory_of};
 ghost use Rattle.theory_reader.specs.Seen.{declarations};
-ghost use Rattle.theory_reader.specs.Reading.{ReadsItems, IsReadAs, IsAnswer, Tells, SomeAnswer, OneAnswer};
+ghost use Rattle.theory_reader.specs.Reading.{Reads, ReadsItems, IsReadAs, IsAnswer, Tells, SomeAnswer, OneAnswer};
 ghost use Rattle.theory_reader.specs.inner.Stages.{so_far, Agrees, IsSound};
+ghost use Rattle.theory_reader.specs.inner.Pieces.{ReadSoFar};
 
 use crate::declare::declare;
 use crate::items::items;
 use crate::parts::Parts;
+use crate::piece::{Unread, piece_items, statement_end};
 use crate::{Fact, Goal, Theory, TheoryFault};
 use std::alloc::Global;
 use text_kit::{Bytes, NoMemory, Rows};
@@ -74,12 +76,46 @@ fn declared(alloc: Global, text: &[u8], items: &[Item]) -> Result<Theory, Theory
     }
 }
 
-fn read_all(alloc: Global, text: &[u8]) -> Result<Theory, TheoryFault>
+fn read_at_once(alloc: Global, text: &[u8]) -> Result<Theory, TheoryFault>
     ensures { IsReadAs text.now result }
 {
     match items(alloc, text) {
         Err(e) => Err(e),
         Ok(found) => declared(alloc, text, found.as_slice()),
+    }
+}
+
+/// Declares the statements of a text one after another, with room for the tokens and the trees of one of them.
+fn statements(alloc: Global, text: &[u8]) -> Result<Parts<'_>, Unread>
+    ensures { IfOk result (ReadSoFar text.now (length text.now)) }
+{
+    let mut parts = begin(alloc);
+    let mut at = 0;
+    'statements: while at < text.len() {
+        let end = statement_end(text, at);
+        let items = piece_items(alloc, text, at, end)?;
+        declare(alloc, &mut parts, text, items.as_slice())?;
+        at = end;
+    }
+    Ok(parts)
+}
+
+fn by_statements(alloc: Global, text: &[u8]) -> Result<Theory, Unread>
+    ensures { IfOk result (λ t. Reads text.now (declarations t)) }
+{
+    let parts = statements(alloc, text)?;
+    Ok(whole(alloc, parts)?)
+}
+
+/// A statement's fault is the text's first only where no bad byte and no wrong token stands behind it. So a text in
+/// which a statement has one is read again, at once.
+fn read_all(alloc: Global, text: &[u8]) -> Result<Theory, TheoryFault>
+    ensures { IsReadAs text.now result }
+{
+    match by_statements(alloc, text) {
+        Ok(theory) => Ok(theory),
+        Err(Unread::NoMemory) => Err(TheoryFault::NoMemory),
+        Err(Unread::Fault) => read_at_once(alloc, text),
     }
 }
 

@@ -8,3 +8,4 @@ pub mod TreeCases
 pub mod Openings
 pub mod TypeFits
 pub mod Typed
+pub mod Filled

@@ -7,6 +7,7 @@ mod fault;
 mod keys;
 mod known;
 mod laws;
+mod leaves;
 mod making;
 mod names;
 mod numbered;
@@ -25,6 +26,3 @@ pub use names::Names;
 pub use term_reader::read_sentence;
 pub use type_reader::read_type;
 pub use word::word_at;
-
-#[cfg(test)]
-mod tests;

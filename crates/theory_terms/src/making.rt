@@ -1,7 +1,7 @@
 ghost use Rattle.std.specs.Prelude.{◌≡◌, ◌+◌, List, max, IfOk, IfSome};
 ghost use Rattle.std.specs.Option.{ForSome};
 ghost use Rattle.hol_terms.specs.Types.{is_ty, bool_ty, function_ty};
-ghost use Rattle.theory_terms.specs.Answers.{Tells};
+ghost use Rattle.theory_terms.specs.Answers.{Good};
 ghost use Rattle.theory_terms.specs.Signature.{found};
 ghost use Rattle.theory_terms.specs.Words.{word_at as bytes_of};
 ghost use Rattle.theory_terms.specs.Meanings.{depth as depth_of, made as made_at, application as application_of, lambda as lambda_of, applied as put_to, sign as sign_at, signed as put_sign, named as name_meaning, const_as, operator_konst, bound as bound_part, quantifier as quantifier_of, quantified as quantified_by, truth as truth_konst};
@@ -48,7 +48,7 @@ pub(crate) fn is_bool(ty: &Ty) -> bool
 }
 
 /// A term that is put together, where its tree isn't too deep.
-fn made(at: u64, term: Term, ty: Numbered, depth: u32) -> Result<Part, TheoryFault>
+fn made(at: u64, term: Shared<Term>, ty: Numbered, depth: u32) -> Result<Part, TheoryFault>
     requires { depth ≡ depth_of term }
     ensures { (table : List HolTy) → IsNumbered table ty → Reads (made_at at term ty.ty) table result }
 {
@@ -67,12 +67,10 @@ fn made(at: u64, term: Term, ty: Numbered, depth: u32) -> Result<Part, TheoryFau
     }
 }
 
-fn application(alloc: Global, f: Term, x: Term) -> Result<Term, NoMemory>
+fn application(alloc: Global, f: Shared<Term>, x: Shared<Term>) -> Result<Shared<Term>, NoMemory>
     ensures { IfOk result (λ t. t ≡ application_of f x) }
 {
-    let head = Shared::new(alloc, f)?;
-    let arg = Shared::new(alloc, x)?;
-    Ok(Term::App(head, arg))
+    Shared::new(alloc, Term::App(f, x))
 }
 
 /// The application of a head to an argument, which has the type `ty`.
@@ -103,7 +101,7 @@ pub(crate) fn applied(
 }
 
 /// A term without parts.
-fn leaf(at: u64, term: Term, ty: Numbered) -> Part
+fn leaf(at: u64, term: Shared<Term>, ty: Numbered) -> Part
     requires { depth_of term ≡ 1 }
     ensures meaning { meaning_of result ≡ record { at = at; term = term; ty = ty.ty } }
     ensures ty { result.ty ≡ ty }
@@ -116,24 +114,31 @@ fn leaf(at: u64, term: Term, ty: Numbered) -> Part
     }
 }
 
-fn constant(at: u64, k: Konst, ty: Numbered) -> Part
-    ensures meaning { meaning_of result ≡ sign_at at k ty.ty }
-    ensures ty { result.ty ≡ ty }
+fn constant(alloc: Global, at: u64, k: Konst, ty: Numbered) -> Result<Part, NoMemory>
+    ensures meaning { IfOk result (λ p. meaning_of p ≡ sign_at at k ty.ty) }
+    ensures ty { IfOk result (λ p. p.ty ≡ ty) }
 {
-    leaf(at, Term::Con(k), ty)
+    let term = Shared::new(alloc, Term::Con(k))?;
+    Ok(leaf(at, term, ty))
 }
 
 /// `true` or `false`.
-pub(crate) fn truth(value: bool, at: u64) -> Part
-    ensures meaning { meaning_of result ≡ sign_at at (truth_konst value) bool_ty }
-    ensures numbered { (table : List HolTy) → IsNumbered table result.ty }
+pub(crate) fn truth(alloc: Global, value: bool, at: u64) -> Result<Part, TheoryFault>
+    ensures { (table : List HolTy) → Reads (Good (sign_at at (truth_konst value) bool_ty)) table result }
 {
     let k = if value { Konst::True } else { Konst::False };
-    constant(at, k, boolean())
+    Ok(constant(alloc, at, k, boolean())?)
 }
 
-fn named_const(decls: &Decls, at: u64, name: &[u8]) -> Result<Part, TheoryFault>
-    ensures { (table : List HolTy) → AreNoted table decls.now → Reads (const_as at (found name.now decls.now.declared.consts)) table result }
+fn named_const(
+    alloc: Global,
+    decls: &Decls,
+    types: &mut TypeTable,
+    at: u64,
+    name: &[u8],
+) -> Result<Part, TheoryFault>
+    ensures read { (table : List HolTy) → AreNoted table decls.now → Reads (const_as at (found name.now decls.now.declared.consts)) table result }
+    ensures same { types.new ≡ types.old }
 {
     match decls.const_of(name) {
         None => Err(TheoryFault::At {
@@ -145,24 +150,31 @@ fn named_const(decls: &Decls, at: u64, name: &[u8]) -> Result<Part, TheoryFault>
                 ty: copy_ty(ty)?,
                 number,
             };
-            Ok(constant(at, Konst::Named(place), typed))
+            let term = types.named(alloc, place)?;
+            Ok(leaf(at, term, typed))
         }
     }
 }
 
 /// A name, which is a bound variable or a constant.
 pub(crate) fn named(
+    alloc: Global,
     text: &[u8],
     decls: &Decls,
+    types: &mut TypeTable,
     word: Word,
     scope: &Scope,
 ) -> Result<Part, TheoryFault>
-    ensures { (table : List HolTy) → AreNoted table decls.now → AreNumbered table (numbered_types scope.now) → Reads (name_meaning text.now decls.now.declared word (variables scope.now)) table result }
+    ensures read { (table : List HolTy) → AreNoted table decls.now → AreNumbered table (numbered_types scope.now) → Reads (name_meaning text.now decls.now.declared word (variables scope.now)) table result }
+    ensures same { types.new ≡ types.old }
 {
     let name = word_at(text, word);
     match find(scope, name)? {
-        None => named_const(decls, word.start, name),
-        Some((index, ty)) => Ok(leaf(word.start, Term::Bound(index), copy_numbered(ty)?)),
+        None => named_const(alloc, decls, types, word.start, name),
+        Some((index, ty)) => {
+            let term = types.bound(alloc, index)?;
+            Ok(leaf(word.start, term, copy_numbered(ty)?))
+        }
     }
 }
 
@@ -188,13 +200,9 @@ fn operator(alloc: Global, types: &mut TypeTable, op: Op, at: u64) -> Result<Par
     ensures made { Makes (sign_at at (operator_konst op) (function_ty bool_ty (function_ty bool_ty bool_ty))) types.new result }
     ensures keeps { Keeps types.old types.new }
 {
-    let k = match op {
-        Op::Imp => Konst::Imp,
-        Op::Or => Konst::Or,
-        Op::And => Konst::And,
-    };
+    let term = types.operator(alloc, op)?;
     let ty = binary(alloc, types, &boolean(), &boolean(), &boolean())?;
-    Ok(constant(at, k, ty))
+    Ok(leaf(at, term, ty))
 }
 
 fn equality(
@@ -208,15 +216,16 @@ fn equality(
     ensures keeps { Keeps types.old types.new }
 {
     let ty = binary(alloc, types, side, side, &boolean())?;
-    Ok(constant(at, Konst::Eq(copy_ty(&side.ty)?), ty))
+    constant(alloc, at, Konst::Eq(copy_ty(&side.ty)?), ty)
 }
 
 fn negation(alloc: Global, types: &mut TypeTable, at: u64) -> Result<Part, NoMemory>
     ensures made { Makes (sign_at at Konst.Not (function_ty bool_ty bool_ty)) types.new result }
     ensures keeps { Keeps types.old types.new }
 {
+    let term = types.negation(alloc)?;
     let ty = types.function(alloc, &boolean(), &boolean())?;
-    Ok(constant(at, Konst::Not, ty))
+    Ok(leaf(at, term, ty))
 }
 
 fn constant_of(
@@ -295,7 +304,7 @@ fn quantifier_on(
 {
     let test = types.function(alloc, from, &boolean())?;
     let ty = types.function(alloc, &test, gives)?;
-    Ok(constant(at, k, ty))
+    constant(alloc, at, k, ty)
 }
 
 /// A quantifier on a lambda, whose body begins at `body_at`.
@@ -323,11 +332,10 @@ fn quantified(
     }
 }
 
-fn lambda(alloc: Global, from: Ty, body: Term) -> Result<Term, NoMemory>
+fn lambda(alloc: Global, from: Ty, body: Shared<Term>) -> Result<Shared<Term>, NoMemory>
     ensures { IfOk result (λ t. t ≡ lambda_of from body) }
 {
-    let inner = Shared::new(alloc, body)?;
-    Ok(Term::Lam(from, inner))
+    Shared::new(alloc, Term::Lam(from, body))
 }
 
 /// The lambda over variables of the type `from`.

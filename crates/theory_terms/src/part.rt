@@ -3,6 +3,7 @@ ghost use Rattle.theory_terms.specs.Meanings.{depth as depth_of};
 
 use crate::numbered::Numbered;
 use hol_terms::Term;
+use text_kit::Shared;
 
 /// The greatest depth of a term's tree.
 pub(crate) const DEEPEST: u32 = 1024;
@@ -12,7 +13,7 @@ pub(crate) const DEEPEST: u32 = 1024;
 #[derive(Drop)]
 pub(crate) struct Part {
     pub(crate) at: u64,
-    pub(crate) term: Term,
+    pub(crate) term: Shared<Term>,
     pub(crate) ty: Numbered,
     pub(crate) depth: u32,
     ghost is_depth: { depth ≡ depth_of term },

@@ -14,7 +14,7 @@ use crate::scope::Scope;
 use crate::type_reader::declared_type;
 use crate::type_table::TypeTable;
 use crate::{Known, TheoryFault, TheoryKind, word_at};
-use hol_terms::{Term, Ty};
+use hol_terms::{Term, Ty, copy};
 use std::alloc::Global;
 use theory_syntax::{Quant, Tree, Word};
 
@@ -65,8 +65,8 @@ fn read(
     ensures scope { AreNumbered types.new (numbered_types scope.now) }
 {
     match tree {
-        Tree::Name(word) => named(text, decls, *word, &*scope),
-        Tree::Truth(value, at) => Ok(truth(*value, *at)),
+        Tree::Name(word) => named(alloc, text, decls, types, *word, &*scope),
+        Tree::Truth(value, at) => truth(alloc, *value, *at),
         Tree::Round(at, inner) => match read(alloc, text, decls, types, inner.get(), &*scope) {
             Err(e) => Err(e),
             Ok(part) => Ok(moved(*at, part)),
@@ -233,7 +233,7 @@ fn stated(part: Part) -> Result<Term, TheoryFault>
     ensures { Tells (stated_by (meaning_of part)) result }
 {
     if is_bool(&part.ty.ty) {
-        Ok(part.term)
+        Ok(copy(part.term.get())?)
     } else {
         Err(TheoryFault::At {
             at: part.at,

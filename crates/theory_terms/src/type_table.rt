@@ -1,27 +1,30 @@
 ghost use Rattle.std.specs.Prelude.{◌≡◌, [], ◌∷◌, ◌++◌, ◌+◌, ◌-◌, ◌<◌, ℕ, None, nat_lt, length, slice_get, position, if◌then◌else◌, IfOk, OnOk, OnErr};
 ghost use Rattle.std.specs.Ordering.{is_eq};
 ghost use Rattle.hol_terms.specs.Types.{function_ty};
-ghost use Rattle.theory_terms.specs.Meanings.{target as target_of};
+ghost use Rattle.theory_terms.specs.Meanings.{target as target_of, operator_konst};
 ghost use Rattle.theory_terms.specs.inner.Tables.{compared};
 ghost use Rattle.theory_terms.specs.Numbers.{IsNumbered, Keeps, TellsNumbered};
 
 use crate::keys::Keys;
+use crate::leaves::Leaves;
 use crate::numbered::Numbered;
 use crate::{TheoryFault, TheoryKind};
-use hol_terms::{Ty, arrow, copy_ty};
+use hol_terms::{Konst, Term, Ty, arrow, copy_ty};
 use std::alloc::Global;
 use std::marker::Model;
-use text_kit::{NoMemory, Rows};
+use text_kit::{NoMemory, Rows, Shared};
+use theory_syntax::Op;
 
 /// The number of the first function type; below are the base types, each by its own number.
 const FIRST: u64 = 0x1_0000_0000;
 
-/// The function types that a reading met, each once, so that types are compared by their numbers. Contracts see the
-/// list of them.
+/// The function types that a reading met, each once, so that types are compared by their numbers, and the leaves of terms
+/// that it met. Contracts see the list of the types.
 #[derive(Drop)]
 pub(crate) struct TypeTable {
     sides: Keys<(u64, u64)>,
     types: Rows<Ty>,
+    leaves: Leaves,
 }
 
 impl Model for TypeTable {
@@ -109,7 +112,40 @@ impl TypeTable {
         TypeTable {
             sides: Keys::begin(alloc),
             types: Rows::begin(alloc),
+            leaves: Leaves::begin(alloc),
         }
+    }
+
+    /// The bound variable of this index.
+    pub(crate) fn bound(&mut self, alloc: Global, index: u64) -> Result<Shared<Term>, NoMemory>
+        ensures is { IfOk result (λ t. t ≡ Term.Bound index) }
+        ensures same { self.new ≡ self.old }
+    {
+        self.leaves.bound(alloc, index)
+    }
+
+    /// The constant that is declared at this place.
+    pub(crate) fn named(&mut self, alloc: Global, place: u32) -> Result<Shared<Term>, NoMemory>
+        ensures is { IfOk result (λ t. t ≡ Term.Con (Konst.Named place)) }
+        ensures same { self.new ≡ self.old }
+    {
+        self.leaves.named(alloc, place)
+    }
+
+    /// The constant of a sign between two formulas.
+    pub(crate) fn operator(&mut self, alloc: Global, op: Op) -> Result<Shared<Term>, NoMemory>
+        ensures is { IfOk result (λ t. t ≡ Term.Con (operator_konst op)) }
+        ensures same { self.new ≡ self.old }
+    {
+        self.leaves.operator(alloc, op)
+    }
+
+    /// The constant of `~`.
+    pub(crate) fn negation(&mut self, alloc: Global) -> Result<Shared<Term>, NoMemory>
+        ensures is { IfOk result (λ t. t ≡ Term.Con Konst.Not) }
+        ensures same { self.new ≡ self.old }
+    {
+        self.leaves.negation(alloc)
     }
 
     /// The functions from one type to another.

@@ -1,4 +1,4 @@
-use Rattle.std.proofs.Common.{◌≡◌, ap, sym, subst, ◌∙◌}
+use Rattle.std.proofs.Common.{◌≡◌, sym, subst, ◌∙◌}
 use Rattle.theory_terms.specs.Answers.{Good, Refused}
 use Rattle.theory_reader.specs.Declaring.{assumption}
 use Rattle.theory_reader.specs.inner.Stages.{so_far, Agrees}

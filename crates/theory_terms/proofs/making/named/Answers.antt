@@ -16,17 +16,18 @@ use Rattle.theory_terms.proofs.making.named.Goals as goal
 abbrev part : ℕ → Term → Ty → Meaning
 part at t a = record { at = at; term = t; ty = a }
 
-pub returns-in_ok-copy_numbered-in-Some : goal.returns-in_ok-copy_numbered-in-Some
-returns-in_ok-copy_numbered-in-Some c = λ table noted scope.
+pub returns-in_ok-copy_numbered-in-Some-clause-read : goal.returns-in_ok-copy_numbered-in-Some-clause-read
+returns-in_ok-copy_numbered-in-Some-clause-read c = λ table noted scope.
     let name = word_at c.args.text.now c.args.word in
     let copied = c.in_ok-copy_numbered-in-Some.ensures in
     let numbered : IsNumbered table c.in-Some.ty.now = subst (λ o. IfSome o (λ v. IsNumbered table v.1.now)) c.in-Some.is (c.in_ok-find.ensures.numbered table scope) in
     let place : found name (variables c.args.scope.now) ≡ Some (c.in-Some.index, c.in-Some.ty.now.ty) =
     sym (ap (λ n. found n (variables c.args.scope.now)) c.word_at-name.ensures) ∙ sym c.in_ok-find.ensures.found ∙ ap lent c.in-Some.is in
-    let term : roll-Term (Term-F.Bound c.in-Some.index) ≡ terms.Bound c.in-Some.index = search (rules, the_lemmas) in
+    let variable : roll-Term (Term-F.Bound c.in-Some.index) ≡ terms.Bound c.in-Some.index = search (rules, the_lemmas) in
+    let term : roll-Term (Term-F.Bound c.in-Some.index) ≡ c.in_ok-term-in-Some.term = variable ∙ sym c.in_ok-term-in-Some.ensures.is in
     let ty : c.in-Some.ty.now.ty ≡ c.in_ok-copy_numbered-in-Some.field-0.ty = sym (ap (λ t. t.ty) copied) in
     let whole : part c.args.word.start (roll-Term (Term-F.Bound c.in-Some.index)) c.in-Some.ty.now.ty ≡
-    part c.args.word.start (terms.Bound c.in-Some.index) c.in_ok-copy_numbered-in-Some.field-0.ty = λ i. part c.args.word.start (term i) (ty i) in (
+    part c.args.word.start c.in_ok-term-in-Some.term c.in_ok-copy_numbered-in-Some.field-0.ty = λ i. part c.args.word.start (term i) (ty i) in (
       ap (λ o. named_as c.args.word.start o (found name c.args.decls.now.declared.consts)) place ∙
           ap Good (whole ∙ sym c.leaf.ensures.meaning),
       subst (IsNumbered table) (sym (c.leaf.ensures.ty ∙ copied)) numbered,

@@ -2,8 +2,8 @@ use Rattle.std.proofs.Common.{◌≡◌, map, sym, ap, subst, ◌∙◌, rules}
 use Rattle.theory_terms.specs.Answers.{Refused}
 use Rattle.theory_terms.specs.Meanings.{meaning}
 use Rattle.theory_terms.specs.inner.Scopes.{variables, numbered_types}
-use Rattle.theory_terms.specs.inner.Parts.{meaning_of}
-use Rattle.theory_terms.proofs.Equations.{meaning_apply}
+use Rattle.theory_terms.specs.inner.Parts.{meaning_of, Reads}
+use Rattle.theory_terms.proofs.Equations.{meaning_apply, meaning_truth}
 use Rattle.theory_terms.proofs.Arguments.{goes_on, is_refused, refused_all}
 use Rattle.theory_terms.proofs.Kept.{keeps_all, keeps_noted}
 use Rattle.theory_terms.proofs.term_reader.+terms.Goals as goal
@@ -40,6 +40,14 @@ read-returns-in-Err-read t c = record {
   decls = c.in-Err-read.ensures.decls;
   scope = c.in-Err-read.ensures.scope;
 }
+
+pub read-returns-in-Truth-clause-read : goal.read-returns-in-Truth-clause-read
+read-returns-in-Truth-clause-read t c =
+    let text = c.args.text.now in
+    let known = c.args.decls.now.declared in
+    let scope = variables c.args.scope.now in
+    let tree = ap (λ t. meaning text known t scope) c.in-Truth.is ∙ meaning_truth text known c.in-Truth.value c.in-Truth.at scope in
+    subst (λ a. Reads a c.args.types.now c.truth.result) (sym tree) (c.truth.ensures c.args.types.now)
 
 pub sided-returns-in-Ok-clause-decls : goal.sided-returns-in-Ok-clause-decls
 sided-returns-in-Ok-clause-decls t c = keeps_noted c.read.new.types c.signed.new.types c.args.decls.now c.signed.ensures.keeps c.read.ensures.decls

@@ -1,7 +1,7 @@
 use Rattle.std.proofs.Common.{subst, sym}
 use Rattle.theory_reader.specs.Reading.{ReadsItems}
 use Rattle.theory_reader.proofs.Answered.{answered}
-use Rattle.theory_reader.proofs.reader.read_all.Goals as goal
+use Rattle.theory_reader.proofs.reader.read_at_once.Goals as goal
 
 pub returns-in-Ok : goal.returns-in-Ok
 returns-in-Ok c =
