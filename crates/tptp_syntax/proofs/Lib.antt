@@ -1,5 +1,6 @@
 pub mod Closing
 pub mod Scopes
+pub mod Binders
 pub mod WordLists
 pub mod Cutting
 pub mod Runs

@@ -26,6 +26,3 @@ pub use problem::{Problem, Statement, TptpFault};
 pub use read::{one_answer, read_problem};
 pub use sorts::{Kind, Mode, Skip};
 pub use tokens::{Chain, Pair, Quant, Tok};
-
-#[cfg(test)]
-mod tests;

@@ -1,10 +1,11 @@
 ghost use Rattle.std.specs.Prelude.{◌≡◌, [], ◌∷◌, length, nat_eq, slice_get, IfOk, OnOk, MatchOption, false, true};
 ghost use Rattle.std.specs.List.{list_any};
+ghost use Rattle.indexmap.specs.IndexMap.{ContainsKey, Updates};
 ghost use Rattle.indexmap.specs.IndexSet.{insert_key};
 ghost use Rattle.tptp_syntax.specs.Grammar.{symbol_number, is_bound, bound_number};
 ghost use Rattle.tptp_syntax.specs.inner.Machine.{inner};
 
-use indexmap::IndexSet;
+use indexmap::{IndexMap, IndexSet};
 use std::alloc::Global;
 use std::marker::Model;
 use text_kit::{NoMemory, Rows};
@@ -69,21 +70,48 @@ impl Symbols {
     }
 }
 
-/// The variables around a place, of which contracts see the innermost first.
+/// A variable with the number of the binder that it hides, where an outer one has its name.
+#[derive(Drop)]
+struct Binder {
+    name: u64,
+    hidden: Option<u64>,
+}
+
+/// The variables around a place, of which contracts see the innermost first. One is found by hashing.
 #[derive(Drop)]
 pub(crate) struct Scope {
-    outermost_first: Rows<u64>,
+    outermost_first: Rows<Binder>,
+    numbers: IndexMap<u64, u64>,
+}
+
+/// Gives a name that is in the map another number, or none.
+fn retell(numbers: &mut IndexMap<u64, u64>, name: u64, number: Option<u64>)
+    requires { ContainsKey nat_eq numbers.old name }
+    ensures { Updates nat_eq numbers.old numbers.new name number }
+{
+    match number {
+        Some(outer) => {
+            let _ = numbers.insert(name, outer);
+        }
+        None => {
+            let _ = numbers.swap_remove(&name);
+        }
+    }
 }
 
 impl Model for Scope {
-    ghost use Rattle.std.specs.Prelude.{List, ℕ, reverse};
+    ghost use Rattle.std.specs.Prelude.{◌≡◌, List, ℕ, nat_eq, reverse};
     ghost use Rattle.std.specs.Coded.{coded_list, coded_ℕ};
+    ghost use Rattle.indexmap.specs.IndexMap.{get};
+    ghost use Rattle.tptp_syntax.specs.inner.Binders.{names, innermost, AreNoted};
 
     ghost Value = { List ℕ };
 
     ghost coded = { coded_list coded_ℕ };
 
-    ghost view = { λ s. reverse s.outermost_first };
+    ghost view = { λ s. names (reverse s.outermost_first) };
+
+    ghost invariant = { λ s. AreNoted (reverse s.outermost_first) × ((x : ℕ) → get nat_eq s.numbers x ≡ innermost x (names (reverse s.outermost_first))) };
 }
 
 impl Scope {
@@ -93,6 +121,7 @@ impl Scope {
     {
         Scope {
             outermost_first: Rows::begin(alloc),
+            numbers: IndexMap::new(alloc),
         }
     }
 
@@ -107,24 +136,25 @@ impl Scope {
     pub(crate) fn number(&self, name: u64) -> Option<u64>
         ensures { MatchOption result (is_bound name self.now ≡ false) (λ n. (is_bound name self.now ≡ true) × (n ≡ bound_number name self.now)) }
     {
-        let mut left = self.outermost_first.len();
-        'names: while left > 0 {
-            left -= 1;
-            if *self.outermost_first.at(left) == name {
-                return Some(left as u64);
-            }
-        }
-        None
+        self.numbers.get(&name).copied()
     }
 
     /// Binds a variable within the others. Above 5,000 of them the answer is want of memory, as for the formula that binds them.
     pub(crate) fn enter(&mut self, name: u64) -> Result<(), NoMemory>
         ensures { OnOk result (self.new ≡ name ∷ self.old) }
     {
-        if self.outermost_first.len() < MOST {
-            self.outermost_first.push(name)
-        } else {
-            Err(NoMemory)
+        let around = self.outermost_first.len();
+        if around >= MOST {
+            return Err(NoMemory);
+        }
+        let hidden = self.numbers.get(&name).copied();
+        self.outermost_first.push(Binder { name, hidden })?;
+        match self.numbers.insert(name, around as u64) {
+            Ok(_) => Ok(()),
+            Err(_) => {
+                let _ = self.outermost_first.pop();
+                Err(NoMemory)
+            }
         }
     }
 
@@ -133,7 +163,9 @@ impl Scope {
         ensures left { self.new ≡ inner self.old }
         ensures value { result ≡ length (inner self.old) }
     {
-        let _ = self.outermost_first.pop();
+        if let Some(left) = self.outermost_first.pop() {
+            retell(&mut self.numbers, left.name, left.hidden);
+        }
         self.outermost_first.len() as u64
     }
 }
