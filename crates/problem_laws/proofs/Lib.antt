@@ -1,0 +1,15 @@
+mod Places
+mod Lexemes
+mod Cutting
+mod Words
+mod Pages
+mod Sounds
+mod TermsRead
+mod FormulasRead
+mod Printing
+mod PrintedFormulas
+mod Texts
+mod Wholes
+mod Readable
+mod Theories
+mod Read
