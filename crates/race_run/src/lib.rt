@@ -17,8 +17,6 @@ mod settling;
 mod sweeping;
 mod taken;
 mod taking;
-#[cfg(test)]
-mod tests;
 mod watching;
 mod whole;
 mod worker;

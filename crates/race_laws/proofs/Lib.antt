@@ -1,0 +1,3 @@
+pub mod Winning
+pub mod Answered
+pub mod Unwon
