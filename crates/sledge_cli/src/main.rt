@@ -1,8 +1,9 @@
-//! The program `sledge`: hands its words, the machine's files and its standard output to `answer`.
+//! The program `sledge`: hands its words, the machine's files and processes and its standard output to `run`.
 #![tactic(auto)]
 
+use child_launcher::ChildLauncher;
 use race_outside::{FileShelf, StreamSink};
-use sledge_engine::answer;
+use sledge_engine::run;
 use std::process::ExitCode;
 use std::{env, io};
 
@@ -29,22 +30,27 @@ fn out_of_memory(rt: &HostRuntime) -> ExitCode {
     }
 }
 
-fn reply(rt: &HostRuntime, words: &[String]) -> ExitCode {
-    let mut shelf = FileShelf::begin(rt);
-    let mut out = StreamSink::begin(io::writer(rt));
-    ExitCode::from(answer(rt.alloc(), words, &mut shelf, &mut out))
-}
-
 /// Words that can't be read, since they are no text, are in no grammar: they are answered as no words are.
 fn main(rt: HostRuntime) -> ExitCode {
-    match words(&rt) {
-        Ok(words) => reply(&rt, words.as_slice()),
+    let words = match words(&rt) {
+        Ok(words) => words,
         Err(e) => {
             if e.kind() == io::ErrorKind::OutOfMemory {
-                out_of_memory(&rt)
-            } else {
-                reply(&rt, &[])
+                return out_of_memory(&rt);
             }
+            Vec::new(rt.alloc())
         }
-    }
+    };
+    let mut shelf = FileShelf::begin(&rt);
+    let mut out = StreamSink::begin(io::writer(&rt));
+    let launcher = ChildLauncher::begin(rt.alloc(), &rt);
+    let done = run(
+        &rt,
+        rt.alloc(),
+        words.as_slice(),
+        &mut shelf,
+        launcher,
+        &mut out,
+    );
+    ExitCode::from(done.status)
 }

@@ -1,5 +1,5 @@
 -- A reply from what a call says of its status and its text.
-use Rattle.std.proofs.Common.{ℕ, ◌≡◌, List, Result, Ok, Err, sym, subst}
+use Rattle.std.proofs.Common.{ℕ, ◌≡◌, List, Result, Ok, Err, refl, sym, subst}
 use Rattle.std.specs.Prelude.{MatchOption, None, OnOk, Option, Some}
 use Rattle.std.specs.Result.{IfOk}
 use Rattle.text_kit.specs.declared.NoMemory.{NoMemory}
@@ -10,6 +10,16 @@ use Rattle.sledge_engine.specs.inner.Sinking.{IsPut, whole, part}
 pub if_ok_map : {T E : Type 0} (r : Result T E) (P Q : T → Type 0) → ((x : T) → P x → Q x) → IfOk r P → IfOk r Q
 if_ok_map (Ok x) P Q f h = f x h
 if_ok_map (Err e) P Q f h = tt
+
+-- what holds of each value that a call may give
+pub if_ok_by : {T E : Type 0} (r : Result T E) (P : T → Type 0) → ((x : T) → r ≡ Ok x → P x) → IfOk r P
+if_ok_by (Ok x) P f = f x refl
+if_ok_by (Err e) P f = tt
+
+-- and of the one that it gave
+pub if_ok_at : {T E : Type 0} (r : Result T E) (P : T → Type 0) (x : T) → r ≡ Ok x → IfOk r P → P x
+if_ok_at (Ok y) P x is h = let same : y ≡ x = cc in subst P same h
+if_ok_at (Err e) P x is h = absurd cc
 
 pub on_ok_map : {T E : Type 0} (r : Result T E) (P Q : Type 0) → (P → Q) → OnOk r P → OnOk r Q
 on_ok_map (Ok x) P Q f h = f h

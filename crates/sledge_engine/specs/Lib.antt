@@ -9,5 +9,10 @@ pub mod Check
 pub mod Filter
 pub mod Problem
 pub mod Replies
+pub mod Orders
+pub mod Headline
+pub mod Reports
+pub mod Completeness
+pub mod Runs
 pub mod Laws
 pub mod inner

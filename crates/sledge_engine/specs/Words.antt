@@ -34,3 +34,11 @@ pub record SliceLine : Type 0 where
 
 abbrev pub slice_line : Line → List (List ℕ) → SliceLine
 slice_line l words = record { theory = get_or words 0 []; goal = get_or words 1 []; slice = l.slice }
+
+-- `prove`: a race for the goal of the second name in the theory of the first
+pub record GoalLine : Type 0 where
+  pub theory : List ℕ
+  pub goal : List ℕ
+
+abbrev pub goal_line : List (List ℕ) → GoalLine
+goal_line words = record { theory = get_or words 0 []; goal = get_or words 1 [] }

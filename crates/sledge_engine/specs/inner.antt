@@ -7,3 +7,7 @@ pub mod Lookups
 pub mod Marks
 pub mod Asked
 pub mod Shown
+pub mod Planned
+pub mod Trials
+pub mod Preparing
+pub mod Races

@@ -17,7 +17,7 @@ use std::alloc::Global;
 use text_kit::{Bytes, NoMemory};
 
 /// Answers the line that the words are.
-fn answer_line<H: Shelf>(
+pub(crate) fn answer_line<H: Shelf>(
     alloc: Global,
     words: &[String],
     line: &Line,

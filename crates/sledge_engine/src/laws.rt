@@ -1,7 +1,7 @@
 ghost use Rattle.sledge_engine.specs.Laws.{PosedIsNotRefused, StatusTellsFound};
 
 /// A goal that stands in a theory and fits isn't refused, where the shelf tells what it holds and didn't fail. So then `metis`,
-/// `filter` and `problem` answer for the goal, or that memory ran out. It does nothing: its contract is the law.
+/// `filter`, `problem` and `prove` answer for the goal, or that memory ran out. It does nothing: its contract is the law.
 pub fn posed_goals_are_not_refused()
     ensures { PosedIsNotRefused }
 {

@@ -36,7 +36,7 @@ pub(crate) fn put_long(text: &mut Bytes, name: &str) -> Result<u8, NoMemory>
 }
 
 /// The theory of bytes.
-fn read_theory(alloc: Global, bytes: &[u8], text: &mut Bytes) -> Result<Opened, NoMemory>
+pub(crate) fn read_theory(alloc: Global, bytes: &[u8], text: &mut Bytes) -> Result<Opened, NoMemory>
     requires few { length bytes.now < 2 ^ 32 }
     requires text { text.old ≡ [] }
     ensures { IfOk result (IsTheoryOf bytes.now text.new) }

@@ -22,7 +22,7 @@ pub(crate) enum Posed {
 
 /// A goal of a theory by its number, with what it may be proved from, or the status of a refusal whose text is put.
 #[derive(Drop)]
-enum Found {
+pub(crate) enum Found {
     Goal(u32, Env),
     Refused(u8),
 }
@@ -50,7 +50,12 @@ fn measure(
 }
 
 /// Finds the goal of this name in a theory.
-fn find(alloc: Global, theory: &Theory, name: &str, text: &mut Bytes) -> Result<Found, NoMemory>
+pub(crate) fn find(
+    alloc: Global,
+    theory: &Theory,
+    name: &str,
+    text: &mut Bytes,
+) -> Result<Found, NoMemory>
     requires { text.old ≡ [] }
     ensures { IfOk result (IsFoundGoal theory.now name.now text.new) }
 {

@@ -19,7 +19,7 @@ use theory_reader::Theory;
 use tptp_print::problem_text;
 
 /// The numbers of chosen facts, in their order.
-fn numbers(alloc: Global, chosen: &[Chosen]) -> Result<Rows<u32>, NoMemory>
+pub(crate) fn numbers(alloc: Global, chosen: &[Chosen]) -> Result<Rows<u32>, NoMemory>
     ensures { IfOk result (λ out. out ≡ map (λ c. c.fact) chosen.now) }
 {
     let mut out = Rows::begin(alloc);

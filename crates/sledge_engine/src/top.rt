@@ -9,7 +9,7 @@ use std::alloc::Global;
 use text_kit::Bytes;
 
 /// Puts a whole text and gives its status, or 5 where the sink fails.
-fn put_text<S: Sink>(out: &mut S, text: &[u8], status: u8) -> u8
+pub(crate) fn put_text<S: Sink>(out: &mut S, text: &[u8], status: u8) -> u8
     ensures { IsPut (told_by (S.taken out.old) (S.taken out.new) (S.faults out.old) (S.faults out.new)) text.now status result }
 {
     match out.put(text) {

@@ -1,6 +1,6 @@
 ghost use Rattle.std.specs.Prelude.{◌≡◌, ◌≤◌, [], get_or, length, map, string_bytes, IfOk};
-ghost use Rattle.sledge_engine.specs.Words.{arguments as arguments_of, check_line as check_of, metis_line as metis_of, slice_line as slice_of};
-ghost use Rattle.sledge_engine.specs.inner.Shown.{check_shown, metis_shown, slice_shown};
+ghost use Rattle.sledge_engine.specs.Words.{arguments as arguments_of, check_line as check_of, metis_line as metis_of, goal_line as goal_of, slice_line as slice_of};
+ghost use Rattle.sledge_engine.specs.inner.Shown.{check_shown, goal_shown, metis_shown, slice_shown};
 
 use sledge_words::Line;
 use std::alloc::Global;
@@ -32,6 +32,13 @@ pub(crate) struct SliceLine<'w> {
     pub goal: &'w str,
     /// The number of the slice.
     pub slice: u32,
+}
+
+/// What `prove` is asked, lent from the words.
+#[derive(Clone, Copy, Drop)]
+pub(crate) struct GoalLine<'w> {
+    pub theory: &'w str,
+    pub goal: &'w str,
 }
 
 /// The word at a place, where there is one.
@@ -95,5 +102,16 @@ pub(crate) fn slice_line<'w>(line: &Line, words: &[&'w str]) -> SliceLine<'w>
         theory: words[0],
         goal: words[1],
         slice: line.slice,
+    }
+}
+
+/// What `prove` is asked by a line with these arguments.
+pub(crate) fn goal_line<'w>(words: &[&'w str]) -> GoalLine<'w>
+    requires { 2 ≤ length words.now }
+    ensures { goal_shown result ≡ goal_of (map (λ w. w.now) words.now) }
+{
+    GoalLine {
+        theory: words[0],
+        goal: words[1],
     }
 }
