@@ -152,7 +152,7 @@ fn crossed<'t>(t: &'t Term, path: &'t [u8]) -> Crossing<'t>
 
 /// `{} : t = s` for the contraction `s` of `t` at the path.
 #[cycle(contracts)]
-pub(crate) fn contraction(log: &mut Log, t: &Term, path: &[u8]) -> Result<ThmId, NoMemory>
+pub fn contraction(log: &mut Log, t: &Term, path: &[u8]) -> Result<ThmId, NoMemory>
     requires { IsGiven log.old.env.sig t.now (own_ty log.old.env.sig t.now) }
     ensures kept { Extends log.old log.new }
     ensures facts { SameFacts log.old log.new }

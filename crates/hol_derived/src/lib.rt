@@ -8,10 +8,7 @@ mod cutting;
 mod replacing;
 mod splitting;
 
-pub use contracting::beta_expand;
+pub use contracting::{beta_expand, contraction};
 pub use cutting::cut;
 pub use replacing::{replace_at, replaced};
 pub use splitting::{cases, excluded_middle};
-
-#[cfg(test)]
-mod tests;

@@ -12,8 +12,6 @@ mod equality;
 mod laws;
 mod propositional;
 mod quantifiers;
-#[cfg(test)]
-mod tests;
 
 pub use choices::{some_chosen, some_named};
 pub use counterexamples::{not_all_chosen, not_all_named};

@@ -1,5 +1,0 @@
-use Rattle.std.proofs.Common.{◌<◌, subst}
-use Rattle.hol_derived.proofs.tests.said.Goals as goal
-
-pub conclusion-requires : goal.conclusion-requires
-conclusion-requires c = subst (λ n. c.args.th.0 < n) c.len.ensures.theorems c.if-th-len.false

@@ -1,0 +1,5 @@
+use Rattle.std.proofs.Common.{◌<◌, subst}
+use Rattle.logic_tests.proofs.derived.said.Goals as goal
+
+pub conclusion-requires : goal.conclusion-requires
+conclusion-requires c = subst (λ n. c.args.th.0 < n) c.len.ensures.theorems c.if-th-len.false

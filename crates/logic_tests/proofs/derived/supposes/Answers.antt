@@ -1,0 +1,5 @@
+use Rattle.std.proofs.Common.{◌<◌, subst}
+use Rattle.logic_tests.proofs.derived.supposes.Goals as goal
+
+pub hypotheses-requires : goal.hypotheses-requires
+hypotheses-requires c = subst (λ n. c.args.th.0 < n) c.len.ensures.theorems c.if-th-len.false
