@@ -19,6 +19,3 @@ pub use fitting::fits_model;
 pub use model_truth::Model;
 pub use sizes::size;
 pub use valued::Valued;
-
-#[cfg(test)]
-mod tests;

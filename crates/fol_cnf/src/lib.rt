@@ -16,6 +16,3 @@ mod walking;
 pub use fault::CnfFault;
 pub use making::cnf;
 pub use named_clause::NamedClause;
-
-#[cfg(test)]
-mod tests;

@@ -111,15 +111,37 @@ fn all_lengthened(alloc: Global, cs: Clauses, d: &Literals) -> Result<Clauses, N
     Ok(out)
 }
 
-/// Each clause with each.
-fn product(alloc: Global, left: Clauses, right: &[Literals]) -> Result<Clauses, NoMemory>
-    ensures { IfOk result (λ cs. cs ≡ joined left right.now) }
+/// The literals of two clauses, the last ones moved.
+fn preceded(alloc: Global, c: &Literals, d: Literals) -> Result<Literals, NoMemory>
+    ensures { IfOk result (λ r. r ≡ c.now ++ d) }
 {
-    if let [d] = right {
+    let front = c.copy(alloc)?.into_vec();
+    Ok(Rows::from_vec(appended_vec(front, d.into_vec())?))
+}
+
+/// Each of the clauses with one more before it. Their literals are moved, so that none is copied again at each level of a nest.
+fn all_preceded(alloc: Global, c: &Literals, ds: Clauses) -> Result<Clauses, NoMemory>
+    ensures { IfOk result (λ r. r ≡ joined (c.now ∷ []) ds) }
+{
+    let mut out = Rows::begin(alloc);
+    for d in ds.into_vec() {
+        out.push(preceded(alloc, c, d)?)?;
+    }
+    Ok(out)
+}
+
+/// Each clause with each.
+fn product(alloc: Global, left: Clauses, right: Clauses) -> Result<Clauses, NoMemory>
+    ensures { IfOk result (λ cs. cs ≡ joined left right) }
+{
+    if let [d] = right.as_slice() {
         return all_lengthened(alloc, left, d);
     }
+    if let [c] = left.as_slice() {
+        return all_preceded(alloc, c, right);
+    }
     let mut out = Rows::begin(alloc);
-    put_joined(alloc, &mut out, left.as_slice(), right)?;
+    put_joined(alloc, &mut out, left.as_slice(), right.as_slice())?;
     Ok(out)
 }
 
@@ -133,7 +155,7 @@ pub fn put_together(
     ensures { IfOk result (λ cs. cs ≡ (if is_product then joined else appended) left right) }
 {
     if is_product {
-        product(alloc, left, right.as_slice())
+        product(alloc, left, right)
     } else {
         Ok(Rows::from_vec(appended_vec(left.into_vec(), right.into_vec())?))
     }

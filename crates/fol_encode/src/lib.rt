@@ -15,6 +15,3 @@ pub use formula::encode_formula;
 pub use laws::{encoded_is_read, signs_cover};
 pub use sign::Sign;
 pub use signs::{Signs, decode_term, signs_of};
-
-#[cfg(test)]
-mod tests;

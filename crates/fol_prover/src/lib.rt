@@ -12,6 +12,3 @@ mod words;
 pub use child_end::ChildEnd;
 pub use proving::prove_bytes;
 pub use replying::child;
-
-#[cfg(test)]
-mod tests;

@@ -21,6 +21,3 @@ pub use fitting::fits;
 pub use hol_terms::TypedLiteral;
 pub use lists::{Clause, Clauses};
 pub use variables::{Variable, variables_in};
-
-#[cfg(test)]
-mod tests;

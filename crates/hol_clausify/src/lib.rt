@@ -24,6 +24,3 @@ pub use laws::{
 pub use source::Source;
 pub use sources::{fact_clauses, goal_clauses};
 pub use typing::clauses_are_typed;
-
-#[cfg(test)]
-mod tests;

@@ -16,6 +16,3 @@ pub use fault::StepFault;
 pub use kernel_rules::{Sequent, Step, ThmId};
 pub use log::Log;
 pub use proven::Proven;
-
-#[cfg(test)]
-mod tests;

@@ -27,6 +27,3 @@ pub use paths::{put_side_redexes, redexes};
 pub use scope::{Scope, nth};
 pub use table::{Aux, Table};
 pub use wholes::whole;
-
-#[cfg(test)]
-mod tests;

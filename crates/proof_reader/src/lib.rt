@@ -11,6 +11,3 @@ mod steps;
 mod words;
 
 pub use reader::read_proof;
-
-#[cfg(test)]
-mod tests;

@@ -18,6 +18,3 @@ pub use name_reader::read_name;
 pub use number_reader::read_number;
 pub use term_reader::read_term;
 pub use type_reader::read_type;
-
-#[cfg(test)]
-mod tests;

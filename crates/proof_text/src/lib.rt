@@ -10,6 +10,3 @@ mod types;
 
 pub use laws::one_text;
 pub use printer::print_proof;
-
-#[cfg(test)]
-mod tests;

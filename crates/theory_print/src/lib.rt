@@ -18,6 +18,3 @@ pub use term_printer::put_sentence;
 pub use text::has_text;
 pub use type_printer::put_type;
 pub use vocabulary::Vocabulary;
-
-#[cfg(test)]
-mod tests;

@@ -12,6 +12,3 @@ pub use first_fault::Fault;
 pub use text_reader::{one_answer, read};
 pub use tokens::{Quant, Tok, Word};
 pub use tree::{Hyp, Item, Op, Tree, TyTree};
-
-#[cfg(test)]
-mod tests;

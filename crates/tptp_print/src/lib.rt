@@ -9,6 +9,3 @@ mod term;
 mod types;
 
 pub use problem::problem_text;
-
-#[cfg(test)]
-mod tests;

@@ -13,6 +13,3 @@ mod vocabulary;
 
 pub use names::put_name;
 pub use printer::print_proof;
-
-#[cfg(test)]
-mod tests;

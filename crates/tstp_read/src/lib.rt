@@ -9,6 +9,3 @@ mod statements;
 mod tokens;
 
 pub use answer::{UsedFault, one_answer, used};
-
-#[cfg(test)]
-mod tests;
