@@ -2,8 +2,9 @@
 # Times `sledge metis --proof` on goals of growing size, and `sledge check` on the proofs that it prints:
 #     bench/metis.sh [FAMILY..]
 # The families: nat (sums of numbers), chain (a chain of equations), group (a product of elements and its inverse, from the axioms), list (`map` over
-# a list of constants), sets (intersections as lambdas), order (a chain of a transitive relation). For each goal: its family and size, how it
-# ended, the seconds of `metis`, the steps and bytes of the proof, and the seconds of `check`.
+# a list of constants), append (two lists put together), sets (intersections as lambdas), order (a chain of a transitive relation), least (in a partial
+# order, a least element below a chain is the only one). For each goal: its family and size, how it ended, the seconds of `metis`, the steps
+# and bytes of the proof, and the seconds of `check`.
 set -eu
 top=$(cd "$(dirname "$0")/.." && pwd)
 program=$top/crates/sledge_cli/out/sledge_cli
@@ -51,6 +52,18 @@ list() {
         print "goal g : map f " p " = " q ";" }' >t.theory
     echo map_nil map_cons
 }
+append() {
+    awk -v n="$1" 'BEGIN {
+        print "type a; type as; const nil : as; const cons : a -> as -> as; const append : as -> as -> as;"
+        print "fact append_nil : !ys:as. append nil ys = ys;"
+        print "fact append_cons : !x:a. !xs:as. !ys:as. append (cons x xs) ys = cons x (append xs ys);"
+        p = "nil"; q = "nil"; r = "nil"
+        for (i = 2 * n; i > n; i--) { printf "const x%d : a;\n", i; q = "(cons x" i " " q ")" }
+        r = q
+        for (i = n; i >= 1; i--) { printf "const x%d : a;\n", i; p = "(cons x" i " " p ")"; r = "(cons x" i " " r ")" }
+        print "goal g : append " p " " q " = " r ";" }' >t.theory
+    echo append_nil append_cons
+}
 sets() {
     awk -v n="$1" 'BEGIN {
         print "type a; const both : (a -> bool) -> (a -> bool) -> a -> bool; const member : a -> (a -> bool) -> bool;"
@@ -70,6 +83,18 @@ order() {
         for (i = 1; i <= n; i++) printf "fact e%d : le c%d c%d;\n", i, i - 1, i
         printf "goal g : le c0 c%d;\n", n }' >t.theory
     echo trans
+    seq -f 'e%.0f' 1 "$1"
+}
+least() {
+    awk -v n="$1" 'BEGIN {
+        print "type p; const le : p -> p -> bool; const bot : p;"
+        print "fact anti : !x:p. !y:p. le x y ==> le y x ==> x = y;"
+        print "fact trans : !x:p. !y:p. !z:p. le x y ==> le y z ==> le x z;"
+        print "fact bot_least : !x:p. le bot x;"
+        for (i = 0; i <= n; i++) printf "const c%d : p;\n", i
+        for (i = 1; i <= n; i++) printf "fact e%d : le c%d c%d;\n", i, i - 1, i
+        printf "fact last : le c%d bot;\ngoal g : c0 = bot;\n", n }' >t.theory
+    echo anti trans bot_least last
     seq -f 'e%.0f' 1 "$1"
 }
 
@@ -95,12 +120,13 @@ run() {
     echo "$1 $2: $ended: metis $searched s, $steps steps, $bytes bytes, check $checked s"
 }
 
-[ $# -gt 0 ] || set -- nat chain group list sets order
+[ $# -gt 0 ] || set -- nat chain group list append sets order least
 for family; do
     case $family in
         nat) sizes="2 4 8 16" ;;
         group) sizes="1 2 3 4" ;;
         sets) sizes="1 2 4 8" ;;
+        least) sizes="1 2 3 4" ;;
         *) sizes="4 8 16 32" ;;
     esac
     for size in $sizes; do run "$family" "$size"; done

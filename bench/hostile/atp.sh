@@ -39,4 +39,18 @@ nest conjunctions "$length" 'p & ' ''
 nest disjunctions "$length" 'p | ' ''
 awk -v n="$length" 'BEGIN { for (i = 0; i < n; i++) printf "fof(f_%d, axiom, p%d).\n", i, i; print "fof(g, conjecture, p7)." }' >"$work/problem"; run statements
 awk -v n="$length" 'BEGIN { for (i = 0; i < n; i++) printf "fof(f_%d, axiom, ? [X] : sk_%d(X)).\n", i, i; print "fof(g, conjecture, ? [Y] : sk_7(Y))." }' >"$work/problem"; run taken_new_names
+nest negated_disjunctions "$((levels / 2 - 7))" '(~ (q | ' '))'
+{ printf 'fof(a, axiom, ! [X0'; awk 'BEGIN { for (i = 1; i < 4900; i++) printf ", X%d", i }'; printf '] : p('; repeat "$length" 'X0, '; printf 'X0)).\n'; } >"$work/problem"; run outermost_variable
+
+# One formula under 4,900 quantifiers, whose body is one atom of some 60 MiB of occurrences of the outermost variable.
+{ printf 'fof(a, axiom, '; awk 'BEGIN { for (i = 0; i < 4900; i++) printf "! [X%d] : ", i }'; printf 'p('; repeat 15728640 'X0, '; printf 'X0)).\n'; } >"$work/problem"; run outermost_variable_60_mib
+
+# a comment of so many bytes, which is to end with this status
+long() {
+    { printf '%% '; head -c "$(($2 - 2))" /dev/zero | tr '\0' a; } >"$work/problem"
+    run "$1"
+    [ "$status" -eq "$3" ] || { echo "WRONG: status $3 was due"; bad=$((bad + 1)); }
+}
+long longest_input 67108864 1
+long longer_input 67108865 3
 [ "$bad" -eq 0 ]
