@@ -25,9 +25,24 @@ timed() {
 }
 
 child() { "$program" --budget "$budget" --age "$age" <"$1" >"$work/child.out" 2>/dev/null; }
+
+# the least budget with which a proof of the problem is found, by halving
+picks() {
+    low=0
+    high=$budget
+    while [ $((low + 1)) -lt "$high" ]; do
+        middle=$(((low + high) / 2))
+        if "$program" --budget "$middle" --age "$age" <"$1" >/dev/null 2>&1; then high=$middle; else low=$middle; fi
+    done
+    echo "$high"
+}
+
+# so many in so many microseconds, a second
+rate() { [ "$1" = - ] && echo - || echo $(($1 * 1000000 / $2)); }
 e() { eprover --auto --tstp-format --proof-object --cpu-limit=10 --print-statistics "$1" >"$work/e.out" 2>/dev/null; }
 
-printf '%-24s %-14s %10s %10s %10s\n' problem answer child_us e_us e_given
+printf '%-24s %-14s %10s %10s %10s %10s %10s %10s\n' problem answer child_us given a_second e_us e_given e_a_second
+slower=
 for file in "$top"/examples/tptp/*.p; do
     name=$(basename "$file" .p)
     wanted=$(sed -n 's/^% status: //p' "$file")
@@ -47,7 +62,9 @@ for file in "$top"/examples/tptp/*.p; do
             wrong=$((wrong + 1))
         fi
     fi
+    picked=-
     if [ "$answer" = Theorem ] || [ "$answer" = Unsatisfiable ]; then
+        picked=$(picks "$file")
         read=$("$reader" "$work/child.out")
         stated=$(grep -c '^fof(' "$work/child.out")
         if [ "$read" != "$stated names" ]; then
@@ -61,8 +78,16 @@ for file in "$top"/examples/tptp/*.p; do
         timed e "$file"
         theirs=$(cat "$work/time")
         given=$(sed -n 's/^# Processed clauses *: *//p' "$work/e.out" | head -n 1)
+        given=${given:--}
     fi
-    printf '%-24s %-14s %10s %10s %10s%s\n' "$name" "$answer" "$ours" "$theirs" "${given:--}" "$note"
+    our_rate=$(rate "$picked" "$ours")
+    their_rate=$(rate "$given" "$theirs")
+    printf '%-24s %-14s %10s %10s %10s %10s %10s %10s%s\n' "$name" "$answer" "$ours" "$picked" "$our_rate" "$theirs" "$given" "$their_rate" "$note"
+    if [ "$our_rate" != - ] && [ "$their_rate" != - ] && grep -q 'SZS status \(Theorem\|Unsatisfiable\|ContradictoryAxioms\)' "$work/e.out" &&
+        [ $((our_rate * 3)) -lt "$their_rate" ]; then
+        slower="$slower $name"
+    fi
 done
+echo "above three times as fast by E:${slower:- none}"
 echo "$wrong wrong"
 [ "$wrong" -eq 0 ]

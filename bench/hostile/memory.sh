@@ -62,14 +62,17 @@ cc -O1 -shared -fPIC -o refuse.so refuse.c -ldl
 cat >one.theory <<'THEORY'
 const p : bool; const q : bool; fact f1 : p; fact f2 : ~p | q; goal g : q;
 THEORY
+# each reads its text first: one that ends before it is fed could not be started
 cat >both <<'CHILD'
 #!/bin/sh
+cat >/dev/null
 printf '%% SZS status Theorem\n%% SZS output start Proof\ncnf(c, plain, $false, [f_f1, f_f2]).\n'
 printf 'cnf(f_f1, axiom, p). cnf(f_f2, axiom, q).\n%% SZS output end Proof\n'
 CHILD
 cat >three <<CHILD
 #!/bin/sh
 if mkdir first 2>/dev/null; then
+    cat >/dev/null
     printf '%% SZS status Theorem\n%% SZS output start Proof\ncnf(c, plain, \$false, f_f1).\n%% SZS output end Proof\n'
 elif mkdir second 2>/dev/null; then
     sleep 0.05
