@@ -10,6 +10,5 @@ pub mod Parting
 pub mod Placing
 pub mod Resolvents
 pub mod Rising
-pub mod SymbolMarks
 pub mod Unifiers
 pub mod Weights

@@ -2,6 +2,5 @@ pub mod Paths
 pub mod Inferences
 pub mod Lines
 pub mod Subsumption
-pub mod Symbols
 pub mod OneList
 pub mod inner

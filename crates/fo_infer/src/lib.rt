@@ -20,7 +20,6 @@ mod seeking;
 mod single;
 mod source;
 mod subsuming;
-mod symbols;
 mod weighing;
 mod writing;
 
@@ -37,5 +36,4 @@ pub use refutation::{Line, Origin, Refutation};
 pub use renaming::{above_literals, renamed};
 pub use single::{alone, find_alone};
 pub use subsuming::subsumes;
-pub use symbols::{may_subsume, symbols_of};
 pub use writing::put_side;

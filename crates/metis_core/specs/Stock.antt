@@ -5,7 +5,7 @@ use Rattle.std.specs.declared.hash.BuildHasherDefault.{BuildHasherDefault}
 use Rattle.std.specs.HashMap.{get, HashMap}
 use Rattle.fo_terms.specs.declared.clause.Clause.{Clause}
 use Rattle.fo_infer.specs.declared.refutation.Line.{Line}
-use Rattle.fo_infer.specs.Symbols.{clause_symbols}
+use Rattle.cover_marks.specs.Marks.{clause_marks}
 use Rattle.metis_core.specs.Print.{clause_print}
 
 -- numbers of clauses by their prints
@@ -28,10 +28,10 @@ IsIndex m lines = (n : ℕ) (l : Line) → slice_get lines n ≡ Some l → Cont
 abbrev pub clauses : List Line → List Clause
 clauses lines = map (λ l. l.clause) lines
 
--- the marks of the symbols of the clauses of these numbers, in their order
-pub record AreMarks (lines : List Line) (numbers marks : List ℕ) : Type 0 where
+-- the marks of the literals of the clauses of these numbers, in their order
+pub record AreMarks (lines : List Line) (numbers : List ℕ) (marks : List (List ℕ)) : Type 0 where
   pub as_many : length marks ≡ length numbers
-  pub each : (k : ℕ) (p : Clause) → k < length numbers → slice_get (clauses lines) (slice_index_or numbers k 0) ≡ Some p → slice_index_or marks k 0 ≡ clause_symbols p
+  pub each : (k : ℕ) (p : Clause) → k < length numbers → slice_get (clauses lines) (slice_index_or numbers k 0) ≡ Some p → slice_index_or marks k [] ≡ clause_marks p
 
 -- the line of this number holds the clause
 abbrev pub IsLine : List Line → Clause → ℕ → Type 0

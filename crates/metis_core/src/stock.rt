@@ -1,5 +1,5 @@
 ghost use Rattle.std.specs.Prelude.{◌≡◌, ◌≢◌, true, false, ◌↔◌, ◌<◌, ◌≤◌, ◌++◌, ◌∷◌, [], IsTrue, IfOk, OnOk, Some, slice_get, slice_index_or, length, MatchBool, MatchOption};
-ghost use Rattle.fo_infer.specs.Symbols.{clause_symbols};
+ghost use Rattle.cover_marks.specs.Marks.{clause_marks};
 ghost use Rattle.metis_core.specs.Stock.{clauses};
 ghost use Rattle.fo_terms.specs.declared.clause.Clause.{Clause};
 ghost use Rattle.fo_terms.specs.Weight.{clause_size};
@@ -15,8 +15,9 @@ use crate::known::{Places, is_flat_known, is_known, note};
 use crate::stop::Stop;
 use crate::units::{as_unit, is_unit_subsumed, put_unit};
 use crate::waiting::{Entry, Waiting};
+use cover_marks::{ClauseMarks, may_subsume};
 use fo_cells::{FlatClause, print_of};
-use fo_infer::{Line, Origin, may_subsume, subsumes, symbols_of};
+use fo_infer::{Line, Origin, subsumes};
 use fo_terms::Clause;
 use pair_marks::{PairMarks, marks_of};
 use std::alloc::Global;
@@ -45,8 +46,8 @@ pub struct Stock {
     pub units: Option<UnitTree>,
     /// the other active clauses
     pub rest: Rows<u32>,
-    /// the marks of the symbols of these others, in their order
-    pub marks: Rows<u64>,
+    /// the marks of the literals of these others, in their order
+    pub marks: Rows<ClauseMarks>,
     pub waiting: Waiting,
 }
 
@@ -73,13 +74,18 @@ pub fn empty_stock(alloc: Global, positions: Positions) -> Stock
 }
 
 /// Whether the clause at this place among the rest, whose marks are looked at first, subsumes the clause with these marks.
-fn is_subsumed_at(stock: &Stock, k: usize, c: &Clause, marks: u64) -> Result<bool, NoMemory>
+fn is_subsumed_at(
+    stock: &Stock,
+    k: usize,
+    c: &Clause,
+    marks: &ClauseMarks,
+) -> Result<bool, NoMemory>
     requires sound { IsSound stock.now }
     requires place { k < length stock.now.rest }
-    requires marks { marks ≡ clause_symbols c.now }
+    requires marks { marks.now ≡ clause_marks c.now }
     ensures { IfOk result (λ b. (p : Clause) → slice_get (clauses stock.now.lines) (slice_index_or stock.now.rest k 0) ≡ Some p → IsTrue b ↔ Subsumes p c.now) }
 {
-    if !may_subsume(*stock.marks.at(k), marks) {
+    if !may_subsume(stock.marks.at(k), marks) {
         return Ok(false);
     }
     let n = *stock.rest.at(k);
@@ -92,9 +98,9 @@ fn is_subsumed(stock: &Stock, c: &Clause) -> Result<bool, NoMemory>
     requires { IsSound stock.now }
     ensures { IfOk result (λ b. IsTrue b ↔ ((p : Clause) × IsAmong stock.now.rest stock.now.lines p × Subsumes p c.now)) }
 {
-    let marks = symbols_of(c);
+    let marks = cover_marks::marks_of(stock.alloc, c)?;
     for k in 0..stock.rest.len() {
-        if is_subsumed_at(stock, k, c, marks)? {
+        if is_subsumed_at(stock, k, c, &marks)? {
             return Ok(true);
         }
     }
@@ -236,7 +242,7 @@ fn put_active(stock: &mut Stock, number: u32) -> Result<(), NoMemory>
             Ok(())
         }
         None => {
-            let marks = symbols_of(clause);
+            let marks = cover_marks::marks_of(stock.alloc, clause)?;
             stock.marks.push(marks)?;
             stock.rest.push(number)?;
             Ok(())

@@ -6,6 +6,8 @@ mod child;
 #[cfg(test)]
 mod clauses;
 #[cfg(test)]
+mod covers;
+#[cfg(test)]
 mod inferring;
 #[cfg(test)]
 mod marks;

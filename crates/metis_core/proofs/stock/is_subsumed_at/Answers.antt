@@ -10,7 +10,7 @@ use Rattle.metis_core.proofs.stock.is_subsumed_at.Goals as goal
 pub returns-then-not-may_subsume : goal.returns-then-not-may_subsume
 returns-then-not-may_subsume c = λ p at. (
   λ told. (let clash : false ≡ true = told in cc),
-  λ sub. c.if-not-may_subsume.ensures p c.args.c.now
+  λ sub. c.if-not-may_subsume.ensures.law p c.args.c.now
       (mark_at c.args.stock.now.lines c.args.stock.now.rest c.args.stock.now.marks c.args.k c.at.result.now p c.requires.sound.marks c.requires.place c.at.ensures at) c.requires.marks sub,
 )
 

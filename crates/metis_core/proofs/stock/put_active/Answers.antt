@@ -45,7 +45,7 @@ returns-in_ok-push-in-None-2-clause-sound c =
           (parted_rest old.lines old.active old.rest old.units n c.requires.sound.parted));
       marks = subst (λ r. AreMarks old.lines r c.push-in-None.new.self) (sym c.in_ok-push-in-None-2.ensures.ok)
           (subst (AreMarks old.lines (old.rest ++ n ∷ [])) (sym c.in_ok-push-in-None.ensures.ok)
-          (marks_push old.lines old.rest old.marks n c.symbols_of-marks.result c.at.result.now.clause (clause_at old.lines n c.at.result.now c.at.ensures) c.symbols_of-marks.ensures c.requires.sound.marks));
+          (marks_push old.lines old.rest old.marks n c.in_ok-marks-in-None.marks c.at.result.now.clause (clause_at old.lines n c.at.result.now c.at.ensures) c.in_ok-marks-in-None.ensures c.requires.sound.marks));
       reach = reach_pushed old.positions old.lines old.active c.push.new.self old.reach c.push-2.new.self n c.in_ok-reach.reach c.at.result.now.clause c.is_plain.result
           c.in_ok-push.ensures.ok c.in_ok-push-2.ensures.ok (clause_at old.lines n c.at.result.now c.at.ensures) c.is_plain.ensures c.in_ok-reach.ensures c.requires.sound.reach;
       few = c.requires.sound.few;

@@ -1,0 +1,7 @@
+//! Marks of a clause's literals that tell where it can't subsume another.
+#![tactic(auto)]
+
+mod cover;
+mod marks;
+
+pub use cover::{ClauseMarks, marks_of, may_subsume};
