@@ -180,7 +180,6 @@ fn one_name(alloc: Global) -> Result<bool, NoMemory> {
     Ok(names.len() == 1 && names.place(name) == Some(0) && copies.len() == 1)
 }
 
-#[tactic(none)]
 fn readings(alloc: Global) -> Result<bool, TheoryFault> {
     let mut known = declared(alloc, TEXT)?;
     let types = arrow_reads(alloc, &known)?;
@@ -188,7 +187,6 @@ fn readings(alloc: Global) -> Result<bool, TheoryFault> {
     Ok(types && sentences && existence(alloc, &mut known)?)
 }
 
-#[tactic(none)]
 fn faults(alloc: Global) -> Result<bool, NoMemory> {
     let mut known = declared(alloc, TEXT)?;
     let found = applications(alloc, &mut known)?;
