@@ -19,6 +19,6 @@ for problem in group order ladder lists sets; do
     symbols=$("$program" "$work/file" lines | sed 's/|.*//' | tr ' ' '\n' | grep -c '^[vf]$')
     awk -v name="$problem" -v symbols="$symbols" 'NR == FNR { end = $2; picks = $3; kept = $4; next } {
         s = $1 + $2
-        printf "%-8s %-10s %6d %6d %9d %8.2f %9.0f %8.1f %8.0f\n", name, end, picks, kept, symbols, s, s > 0 ? picks / s : 0, $3 / 1024, $3 * 1024 / kept
+        printf "%-8s %-10s %6d %6d %9d %8.2f %9.0f %8.1f %8.0f\n", name, end, picks, kept, symbols, s, (s > 0 ? picks / s : 0), $3 / 1024, $3 * 1024 / kept
     }' "$work/end" "$work/time"
 done
