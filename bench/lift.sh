@@ -14,14 +14,21 @@ trap 'rm -rf "$work"' EXIT
 cd "$work"
 . "$top/bench/goals.sh"
 
-# the least budget with which the goal is found, by halving
+# whether the goal is found with this budget
+# shellcheck disable=SC2086
+found() { "$program" metis t.theory g $facts --budget "$1" >/dev/null; }
+
+# the least budget with which the goal is found, from below, since a search with little to do is soon over; none above 2,000
 picks() {
-    low=0
-    high=10000
+    high=1
+    until found "$high"; do
+        [ "$high" -lt 2000 ] || return 0
+        high=$((high * 2))
+    done
+    low=$((high / 2))
     while [ $((low + 1)) -lt "$high" ]; do
         middle=$(((low + high) / 2))
-        # shellcheck disable=SC2086
-        if "$program" metis t.theory g $facts --budget "$middle" >/dev/null; then high=$middle; else low=$middle; fi
+        if found "$middle"; then high=$middle; else low=$middle; fi
     done
     echo "$high"
 }
@@ -29,6 +36,7 @@ picks() {
 run() {
     facts=$("$1" "$2")
     picks=$(picks)
+    [ -n "$picks" ] || { echo "$1 $2: not found"; return; }
     # shellcheck disable=SC2086
     perf record -q -F 5000 -o samples "$program" metis t.theory g $facts --budget "$picks" --proof >answer 2>/dev/null
     searches=$(head -n 1 answer | awk '{ print NF - 3 + 1 }')
