@@ -5,7 +5,7 @@ use std::test::Fail;
 use text_kit::{Bytes, NoMemory, Rows};
 
 /// Two facts and a goal that follows from both.
-const IMPLIED: &[u8] =
+pub(crate) const IMPLIED: &[u8] =
     b"const p : bool; const q : bool; fact f1 : p; fact f2 : ~p | q; goal g : q;";
 
 /// Facts of 64 clauses and of 65, a goal of one clause, and one whose denial has 65.
@@ -22,7 +22,7 @@ const EQUALS: &[u8] =
     b"const p : bool; const q : bool; const r : bool; const s : bool; const t : bool;
 fact a : p & q; fact b : p & r; fact c : p & s; fact d : p & t; goal g : p;";
 
-fn words(alloc: Global, line: &[&str]) -> Result<Vec<String>, NoMemory> {
+pub(crate) fn words(alloc: Global, line: &[&str]) -> Result<Vec<String>, NoMemory> {
     let mut words = Vec::new(alloc);
     for word in line {
         match String::from_str(alloc, word) {
@@ -36,7 +36,7 @@ fn words(alloc: Global, line: &[&str]) -> Result<Vec<String>, NoMemory> {
     Ok(words)
 }
 
-fn held(alloc: Global, name: &[u8], bytes: &[u8]) -> Result<Held, NoMemory> {
+pub(crate) fn held(alloc: Global, name: &[u8], bytes: &[u8]) -> Result<Held, NoMemory> {
     let name = Bytes::from_slice(alloc, name)?;
     let bytes = Bytes::from_slice(alloc, bytes)?;
     Ok(Held { name, bytes })
