@@ -3,7 +3,8 @@
 # makes fewer. Each run is to answer as one with ample memory does, or that memory ran out, and to leave no child:
 #     bench/hostile/memory.sh
 # Three lines are tried: `metis` on two facts, a race of one slot whose child prints a proof, and a race of three slots whose first child names too few
-# facts, whose second prints a proof, and whose third sleeps, as many workers as slots. Prints how many requests each makes, and how often each answer came. It needs `cc`.
+# facts, whose second prints a proof, and whose third sleeps, as many workers as slots, with a limit of half a second: where the second slot is refused memory
+# nobody wins, and the third child would sleep on. Prints how many requests each makes, and how often each answer came. It needs `cc`.
 set -eu
 top=$(cd "$(dirname "$0")/../.." && pwd)
 "$top/sledge" gen 1 >/dev/null
@@ -104,4 +105,4 @@ try() {
 
 try 'metis' metis one.theory g f1 f2
 try 'a race of one slot' prove one.theory g --slices 1 --workers 1 --prover "$work/both"
-try 'a race of three slots' prove one.theory g --slices 3 --workers 3 --prover "$work/three"
+try 'a race of three slots' prove one.theory g --slices 3 --workers 3 --timeout 500 --prover "$work/three"
