@@ -1,6 +1,7 @@
 pub mod Changes
 pub mod Factorings
 pub mod Listing
+pub mod Looked
 pub mod Meetings
 pub mod Narrowing
 pub mod OneLists

@@ -4,6 +4,7 @@
 mod adding;
 mod components;
 mod concluding;
+mod counting;
 mod covering;
 mod finding;
 mod laws;
@@ -12,6 +13,7 @@ mod meeting;
 mod pairs;
 mod paramodulating;
 mod paths;
+mod ranking;
 mod reading;
 mod refutation;
 mod renaming;

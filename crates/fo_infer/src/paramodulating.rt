@@ -16,32 +16,15 @@ use crate::adding::add;
 use crate::concluding::push_put;
 use crate::meeting::may_meet;
 use crate::paths::fits;
+use crate::ranking::not_below;
 use crate::reading::sides;
 use crate::source::Source;
-use crate::weighing::weighs_more;
 use crate::{Finding, Rule};
-use fo_order::{eligible, is_at_most};
+use fo_order::eligible;
 use fo_terms::{Atom, Clause, FoTerm, Literal};
 use fo_unify::{Bind, Bindings, meet};
 use std::alloc::Global;
 use text_kit::{NoMemory, Rows};
-
-/// Whether the one term isn't less than or equal to the other under the unifier. Nothing is written out where weights tell.
-fn not_below<'a>(
-    alloc: Global,
-    unifier: &Bindings<'a>,
-    s: &'a FoTerm,
-    t: &'a FoTerm,
-) -> Result<bool, NoMemory>
-    ensures { IfOk result (λ b. MatchBool b (NotBelow unifier.now s.now t.now) (NotBelow unifier.now s.now t.now → ⊥)) }
-{
-    if weighs_more(unifier, s, t) {
-        return Ok(true);
-    }
-    let left = unifier.apply(alloc, s)?;
-    let right = unifier.apply(alloc, t)?;
-    Ok(!is_at_most(&left, &right))
-}
 
 /// Adds literals with another one in the place of one of them, all with the substitution put through.
 pub fn push_changed(

@@ -1,4 +1,4 @@
-ghost use Rattle.std.specs.Prelude.{◌≡◌, ◌+◌, ◌<◌, ◌≤◌, IsTrue, MatchOption, map, sum};
+ghost use Rattle.std.specs.Prelude.{◌≡◌, ◌+◌, ◌<◌, ◌≤◌, ◌↔◌, IsTrue, MatchOption, map, sum};
 ghost use Rattle.fo_terms.specs.Substitution.{put};
 ghost use Rattle.fo_terms.specs.Weight.{size_of};
 ghost use Rattle.fo_unify.specs.Lookup.{term_of};
@@ -8,6 +8,9 @@ use fo_unify::Bindings;
 
 /// The heaviest instance whose weight is looked for.
 const MOST: u64 = 65_535;
+
+/// The heaviest instance that counts as light.
+const MOST_LIGHT: u64 = 512;
 
 /// What is left of an allowance behind the weight of a term with the unifier put through it; none where the term weighs more. Nothing is written, and
 /// no more is looked at than the allowance lets.
@@ -48,4 +51,11 @@ pub fn weighs_more<'a>(unifier: &Bindings<'a>, s: &'a FoTerm, t: &'a FoTerm) -> 
         None => false,
         Some(rest) => left_of(&*unifier, s, MOST - rest).is_none(),
     }
+}
+
+/// Whether the term with the unifier put through it weighs at most 512. It takes no memory.
+pub fn is_light<'a>(unifier: &Bindings<'a>, t: &'a FoTerm) -> bool
+    ensures { IsTrue result ↔ (size_of (put (term_of unifier.now) t.now) ≤ 512) }
+{
+    left_of(&*unifier, t, MOST_LIGHT).is_some()
 }
