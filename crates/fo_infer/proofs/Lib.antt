@@ -1,4 +1,6 @@
 pub mod Changes
+pub mod Bounded
+pub mod Cutting
 pub mod Factorings
 pub mod Listing
 pub mod Looked
@@ -11,5 +13,7 @@ pub mod Parting
 pub mod Placing
 pub mod Resolvents
 pub mod Rising
+pub mod Slights
+pub mod Stable
 pub mod Unifiers
 pub mod Weights

@@ -38,13 +38,13 @@ meet_at v w (a ∷ xs) (b ∷ ys) (suc i) x y within is it e =
 
 -- ---- all literals, one after another
 
-pub all_at : (P : Literal → Type 0) (q : List Literal) (n : ℕ) → length q ≤ n → ((j : ℕ) → j < n → (m : Literal) → slice_get q j ≡ Some m → P m) → (j : ℕ) (m : Literal) → slice_get q j ≡ Some m → P m
+pub all_at : {X : Type 0} (P : X → Type 0) (q : List X) (n : ℕ) → length q ≤ n → ((j : ℕ) → j < n → (m : X) → slice_get q j ≡ Some m → P m) → (j : ℕ) (m : X) → slice_get q j ≡ Some m → P m
 all_at P q n over each j m at = each j (let within = slice_get_within q j m at in omega arith) m at
 
-pub more_at : (P : Literal → Type 0) (q : List Literal) (n : ℕ) (item : Literal) → item ≡ get_or q n item → ((j : ℕ) → j < n → (m : Literal) → slice_get q j ≡ Some m → P m) → P item
-    → (j : ℕ) → j < n + 1 → (m : Literal) → slice_get q j ≡ Some m → P m
-more_at P q n item is each here =
-    below_more (λ j. (m : Literal) → slice_get q j ≡ Some m → P m) n each (λ m at. subst P (is ∙ get_or_from_slice_get q n m item at) here)
+pub more_at : {X : Type 0} (P : X → Type 0) (q : List X) (n : ℕ) (item : X) → item ≡ get_or q n item → ((j : ℕ) → j < n → (m : X) → slice_get q j ≡ Some m → P m) → P item
+    → (j : ℕ) → j < n + 1 → (m : X) → slice_get q j ≡ Some m → P m
+more_at {X} P q n item is each here =
+    below_more (λ j. (m : X) → slice_get q j ≡ Some m → P m) n each (λ m at. subst P (is ∙ get_or_from_slice_get q n m item at) here)
 
 -- ---- rules
 

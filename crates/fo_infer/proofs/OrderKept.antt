@@ -16,11 +16,11 @@ use Rattle.fo_order.specs.Counts.{count_of, count_step, Covers}
 use Rattle.fo_order.specs.KnuthBendix.{Above, Outranks, AboveFirst, above, heavier, later, first, here, next}
 
 -- how often a number stands in a list
-abbrev times : ℕ → List ℕ → ℕ
+abbrev pub times : ℕ → List ℕ → ℕ
 times x [] = 0
 times x (y ∷ ys) = (if x == y then 1 else 0) + times x ys
 
-times-append : (x : ℕ) (ys zs : List ℕ) → times x (ys ++ zs) ≡ times x ys + times x zs
+pub times-append : (x : ℕ) (ys zs : List ℕ) → times x (ys ++ zs) ≡ times x ys + times x zs
 times-append x [] zs = omega arith
 times-append x (y ∷ ys) zs = let rest = times-append x ys zs in omega arith
 
@@ -33,7 +33,7 @@ counts_all x (t ∷ ts) each =
     let here : count_of x t ≡ times x (variables_of t) = each.0 in
     omega arith
 
-counts : (x : ℕ) (t : FoTerm) → count_of x t ≡ times x (variables_of t)
+pub counts : (x : ℕ) (t : FoTerm) → count_of x t ≡ times x (variables_of t)
 counts x = by_cases (λ t. count_of x t ≡ times x (variables_of t))
     (λ y. let whole : count_of x (var y) ≡ (if x == y then 1 else 0) = ap (count_of x) (sym (rolls-Var y)) ∙ fold-roll-FoTerm ℕ (count_step x) (FoTerm-F.Var y) in
     let there : times x (variables_of (var y)) ≡ (if x == y then 1 else 0) + 0 = ap (times x) (variables_var y) in

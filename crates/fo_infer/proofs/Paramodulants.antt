@@ -33,6 +33,8 @@ use Rattle.fo_infer.specs.inner.Adding.{Answered, entry, Adds}
 use Rattle.fo_infer.proofs.Listing.{adds_then, adds_one}
 use Rattle.fo_infer.specs.Inferences.{Position, above_all, renamed_apart, conclusion, sought, put_in, literal_replaced, Paramodulates, upto, option_paths, position_rules, direction_rules, para_rules}
 use Rattle.fo_infer.specs.inner.Places.{IsSource, NotBelow, rules_behind}
+use Rattle.fo_infer.specs.inner.Slight.{Slight, SlightAtom, StaysLess}
+use Rattle.fo_infer.proofs.Slights.{slight_at}
 use Rattle.fo_infer.specs.inner.Findings.{left_by, side_of, replaced_in}
 use Rattle.fo_infer.proofs.Resolvents.{some_same}
 use Rattle.fo_infer.proofs.Factorings.{sides_same, equating}
@@ -85,6 +87,12 @@ module _ (position : Position) (from : Source) (source : IsSource from) (j : ℕ
     -- its unifier is one of the side sought and the subterm
     unifier : IsMostGeneral ((from.sought.now, u) ∷ []) made.binds
     unifier = subst (λ e. IsMostGeneral (e ∷ []) made.binds) (λ k. (same_sought k, same_u k)) made.unifier
+
+    pub stays_below : StaysLess from.sought.now from.put_in.now → Slight u → ⊥
+    stays_below less slight =
+        let kept : Above (put (term_of made.binds) from.put_in.now) (put (term_of made.binds) from.sought.now) = less u made.binds slight unifier in
+        made.not_less (subst (λ r. Above r (put (term_of made.binds) (sought from.swapped made.a made.b))) (ap (put (term_of made.binds)) (sym same_put_in))
+        (subst (Above (put (term_of made.binds) from.put_in.now)) (ap (put (term_of made.binds)) (sym same_sought)) kept))
 
     pub no_position : position into.atom path u ≡ false → ⊥
     no_position none =
@@ -282,3 +290,11 @@ no_source position p q i l is none swapped j path c made = none made.a made.b (s
 
 pub apart_length : (p q : Clause) → length (renamed_apart p q) ≡ length q.literals
 apart_length p q = length-map q.literals (put_literal (λ x. var (x + above_all (clause_variables p.literals))))
+
+-- an equation that stays turned the other way gives nothing in a slight literal
+pub nothing_slight : (position : Position) (from : Source) (source : IsSource from) (j : ℕ) (into : Literal) → slice_get from.apart.now j ≡ Some into → SlightAtom into.atom → StaysLess from.sought.now from.put_in.now
+    → (path : List ℕ) (c : Clause) → Paramodulates position from.p.now from.q.now from.i from.swapped j path c → ⊥
+nothing_slight position from source j into literal slight less path c made =
+    let same : made.into ≡ into = some_same made.into into (sym made.right_is ∙ ap (λ ls. slice_get ls j) (sym source.apart) ∙ literal) in
+    let at : at_atom_path path into.atom ≡ Some made.u = ap (λ l. at_atom_path path l.atom) (sym same) ∙ made.at in
+    stays_below position from source j into path made.u literal at c made less (slight_at path into.atom made.u slight at)

@@ -1,5 +1,6 @@
 pub mod Adding
 pub mod Reading
+pub mod Slight
 pub mod Places
 pub mod Covering
 pub mod Components

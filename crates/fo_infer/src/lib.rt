@@ -10,6 +10,7 @@ mod finding;
 mod laws;
 mod made;
 mod meeting;
+mod orienting;
 mod pairs;
 mod paramodulating;
 mod paths;

@@ -15,6 +15,7 @@ ghost use Rattle.fo_infer.specs.inner.Places.{position_of, IsSource, NotBelow, r
 use crate::adding::add;
 use crate::concluding::push_put;
 use crate::meeting::may_meet;
+use crate::orienting::{is_slight_atom, stays_less};
 use crate::paths::fits;
 use crate::ranking::not_below;
 use crate::reading::sides;
@@ -255,7 +256,11 @@ fn para_literal<'a>(
         return Ok(());
     }
     let apart = from.apart;
-    walk_literal(alloc, &*from, j, apart.at(j), out)?;
+    let into = apart.at(j);
+    if from.stays_less && is_slight_atom(&into.atom) {
+        return Ok(());
+    }
+    walk_literal(alloc, &*from, j, into, out)?;
     Ok(())
 }
 
@@ -303,6 +308,7 @@ fn para_equation<'a>(
                 swapped: false,
                 sought: a,
                 put_in: b,
+                stays_less: stays_less(a, b),
             };
             para_direction(alloc, &written, out)?;
             let swapped = Source {
@@ -314,6 +320,7 @@ fn para_equation<'a>(
                 swapped: true,
                 sought: b,
                 put_in: a,
+                stays_less: stays_less(b, a),
             };
             para_direction(alloc, &swapped, out)?;
             Ok(())

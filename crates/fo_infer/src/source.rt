@@ -20,4 +20,6 @@ pub struct Source<'a> {
     pub sought: &'a FoTerm,
     /// the other side, which is put in its place
     pub put_in: &'a FoTerm,
+    /// whether the side that is sought is known to stay less than the other one when it is made the same as a slight term
+    pub stays_less: bool,
 }

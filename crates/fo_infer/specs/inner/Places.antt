@@ -1,5 +1,5 @@
 -- Where a walk of paramodulation stands.
-use Rattle.std.specs.Prelude.{◌≡◌, ℕ, ◌<◌, Bool, true, if◌then◌else◌, List, ◌++◌, map, length, Some, slice_get}
+use Rattle.std.specs.Prelude.{◌≡◌, ℕ, ◌<◌, Bool, true, if◌then◌else◌, List, ◌++◌, map, length, Some, slice_get, IsTrue}
 use Rattle.fo_terms.specs.declared.term.FoTerm.{FoTerm}
 use Rattle.fo_terms.specs.declared.atom.Atom.TheVariants.{Eq}
 use Rattle.fo_terms.specs.Substitution.{put}
@@ -10,6 +10,7 @@ use Rattle.fo_order.specs.Eligible.{IsEligible}
 use Rattle.fo_infer.specs.declared.made.Rule.{Rule}
 use Rattle.fo_infer.specs.declared.made.Rule.TheVariants.{Para}
 use Rattle.fo_infer.specs.declared.source.Source.{Source}
+use Rattle.fo_infer.specs.inner.Slight.{StaysLess}
 use Rattle.fo_infer.specs.Inferences.{Position, tagged_position, plain_position, renamed_apart, sought, put_in}
 
 -- the kind of position that a walk looks for
@@ -30,6 +31,7 @@ pub record IsSource (from : Source) : Type 0 where
   pub equation : slice_get from.p.now.literals from.i ≡ Some (record { positive = true; atom = Eq a b })
   pub sought_is : from.sought.now ≡ sought from.swapped a b
   pub put_in_is : from.put_in.now ≡ put_in from.swapped a b
+  pub less : IsTrue from.stays_less → StaysLess from.sought.now from.put_in.now
 
 -- the rules at these paths, each behind the given one
 abbrev pub rules_behind : ℕ → Bool → ℕ → List ℕ → List (List ℕ) → List Rule
