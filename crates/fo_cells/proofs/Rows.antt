@@ -13,7 +13,7 @@ use Rattle.fo_cells.specs.declared.cell.Cell.TheVariants.{Var, Fun}
 use Rattle.fo_cells.specs.Cells.{joined, cells_of, atom_cells}
 use Rattle.fo_cells.proofs.Terms.{cells_var, cells_fun, joined-append}
 
-some_cells : (t : FoTerm) → 0 < length (cells_of t)
+pub some_cells : (t : FoTerm) → 0 < length (cells_of t)
 some_cells = by_cases (λ t. 0 < length (cells_of t)) (λ x. omega (arith, ap length (cells_var x))) (λ f args each. omega (arith, ap length (cells_fun f args)))
 
 -- the cells of an atom are those of its terms

@@ -1,4 +1,4 @@
-ghost use Rattle.std.specs.Prelude.{◌≡◌, ◌↔◌, ℕ, ◌≤◌, ◌-◌, ◌∷◌, ◌++◌, List, length, take, drop, IsTrue, MatchOption};
+ghost use Rattle.std.specs.Prelude.{◌≡◌, ◌↔◌, ℕ, ◌≤◌, ◌-◌, [], ◌∷◌, ◌++◌, List, length, take, drop, IsTrue, MatchOption};
 ghost use Rattle.fo_terms.specs.declared.term.FoTerm.{FoTerm};
 ghost use Rattle.fo_terms.specs.declared.atom.Atom.TheVariants.{Eq};
 ghost use Rattle.fo_cells.specs.declared.cell.Cell.{Cell};
@@ -96,6 +96,16 @@ pub fn split_term(cells: &[Cell]) -> (&[Cell], &[Cell])
     ensures { (t : FoTerm) (rest : List Cell) → cells_of t ++ rest ≡ cells.now → (result.0.now ≡ cells_of t) × (result.1.now ≡ rest) }
 {
     cells.split_at(term_len(cells))
+}
+
+/// The first cell, and those behind it.
+pub fn first_cell(cells: &[Cell]) -> Option<(Cell, &[Cell])>
+    ensures { MatchOption result (cells.now ≡ []) (λ parts. parts.0 ∷ parts.1.now ≡ cells.now) }
+{
+    match cells {
+        [] => None,
+        [cell, rest @ ..] => Some((*cell, rest)),
+    }
 }
 
 /// The cells behind the first one, where this is of that symbol with as many arguments.

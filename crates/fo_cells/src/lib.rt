@@ -12,7 +12,7 @@ mod trees;
 mod writing;
 
 pub use binds::{Binds, bound};
-pub use cell::{Cell, after_symbol, same_cells, split_term, term_len};
+pub use cell::{Cell, after_symbol, first_cell, same_cells, split_term, term_len};
 pub use cells::Cells;
 pub use flat::FlatClause;
 pub use print::print_of;
