@@ -42,7 +42,7 @@ run() {
     searches=$(head -n 1 answer | awk '{ print NF - 3 + 1 }')
     perf script -i samples -F ip,sym 2>/dev/null | awk -v name="$1 $2" -v picks="$picks" -v searches="$searches" '
         function part(symbol) {
-            if (symbol ~ /^(fo_terms|fo_unify|fo_order|fo_infer|fo_light|fo_cells|unit_tree|pair_marks|cover_marks|metis_core)::/) return "search"
+            if (symbol ~ /^(fo_terms|fo_unify|fo_order|fo_infer|fo_light|fo_cells|unit_tree|pair_marks|cover_marks|flat_subsume|metis_core)::/) return "search"
             if (symbol ~ /^(hol_clausify|formula_clauses|lambda_lift|fol_encode|goal_search|hol_formulas|indexmap)::/) return "clauses"
             if (symbol ~ /^(hol_lift|clause_instances|tagged_terms|tagged_lines|tagged_inputs|goal_proofs|hol_clauses|hol_refutations|hol_derived|hol_kernel|kernel_rules|hyp_sets|hol_terms)::/) return "steps"
             if (symbol ~ /malloc|free|realloc|unlink_chunk|memcpy|memmove|^std_alloc/) return "memory"

@@ -34,10 +34,10 @@ within m n h = same_from_bits (bit_or m n) n (λ i. let both = bit_at_or m n i i
 
 -- ---- terms
 
-marks_var : (x place : ℕ) → term_marks (var x) place ≡ 0
+pub marks_var : (x place : ℕ) → term_marks (var x) place ≡ 0
 marks_var x place = ap (λ t. term_marks t place) (sym (rolls-Var x)) ∙ ap (λ m. m place) (fold-roll-FoTerm (ℕ → ℕ) marks_step (FoTerm-F.Var x))
 
-marks_fun : (f : ℕ) (args : List FoTerm) (place : ℕ) → term_marks (fun f args) place ≡ arguments_marks (under place f) (mark (under place f)) (map term_marks args)
+pub marks_fun : (f : ℕ) (args : List FoTerm) (place : ℕ) → term_marks (fun f args) place ≡ arguments_marks (under place f) (mark (under place f)) (map term_marks args)
 marks_fun f args place = ap (λ t. term_marks t place) (sym (rolls-Fun f args)) ∙ ap (λ m. m place) (fold-roll-FoTerm (ℕ → ℕ) marks_step (FoTerm-F.Fun f args))
 
 module _ (v : ℕ → FoTerm) where

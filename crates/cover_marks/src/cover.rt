@@ -4,7 +4,8 @@ ghost use Rattle.fo_infer.specs.Subsumption.{Subsumes};
 ghost use Rattle.cover_marks.specs.Marks.{clause_marks};
 ghost use Rattle.cover_marks.specs.Cover.{IsWithin, MayCover};
 
-use crate::marks::of_literal;
+use crate::marks::{of_flat_literal, of_literal};
+use fo_cells::FlatClause;
 use fo_terms::Clause;
 use std::alloc::Global;
 use std::marker::Model;
@@ -39,6 +40,17 @@ pub fn marks_of(alloc: Global, c: &Clause) -> Result<ClauseMarks, NoMemory>
     let mut words = Rows::begin(alloc);
     for l in c.literals.as_slice() {
         words.push(of_literal(l))?;
+    }
+    Ok(ClauseMarks { words })
+}
+
+/// The marks of the literals of a clause as cells, which are those of the same clause as trees. It walks over each cell once.
+pub fn marks_of_flat(alloc: Global, c: &FlatClause) -> Result<ClauseMarks, NoMemory>
+    ensures { IfOk result (λ m. m ≡ clause_marks (record { literals = c.now })) }
+{
+    let mut words = Rows::begin(alloc);
+    for i in 0..c.len() {
+        words.push(of_flat_literal(c, i))?;
     }
     Ok(ClauseMarks { words })
 }

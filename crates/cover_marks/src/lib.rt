@@ -4,4 +4,4 @@
 mod cover;
 mod marks;
 
-pub use cover::{ClauseMarks, marks_of, may_subsume};
+pub use cover::{ClauseMarks, marks_of, marks_of_flat, may_subsume};

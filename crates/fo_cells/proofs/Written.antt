@@ -1,5 +1,5 @@
 -- Terms are written behind what stands there.
-use Rattle.std.proofs.Common.{◌≡◌, ℕ, zero, suc, ◌+◌, ◌-◌, ◌<◌, ◌≤◌, Bool, true, false, List, [], ◌∷◌, ◌++◌, length, map, take, drop, get_or, set, sym, ap, ◌∙◌, arith}
+use Rattle.std.proofs.Common.{◌≡◌, ℕ, zero, suc, ◌+◌, ◌-◌, ◌<◌, ◌≤◌, Bool, true, false, List, [], ◌∷◌, ◌++◌, length, map, take, drop, get_or, set, sum, sym, ap, ◌∙◌, arith}
 use Rattle.std.specs.Bool.{MatchBool}
 use Rattle.std.proofs.lemmas.List.{append_assoc, length-append, length-map, take-append-drop}
 use Rattle.fo_terms.specs.declared.term.FoTerm.{FoTerm}
@@ -24,13 +24,13 @@ pub written_more : (start now next : List Cell) (ts : List FoTerm) (i : ℕ) (t 
 written_more start now next ts i t within is so step =
     step ∙ ap (λ l. l ++ cells_of t) so ∙ append_assoc start (joined (map cells_of (take i ts))) (cells_of t) ∙ ap (λ l. start ++ l) (sym (joined_more cells_of ts i t within is))
 
-sum_at : (ts : List FoTerm) (i : ℕ) (t : FoTerm) → i < length ts → t ≡ get_or ts i t → size_of t ≤ size_of_all ts
-sum_at [] i t within is = absurd (omega arith)
-sum_at (u ∷ ts) zero t within is = omega (arith, sum_cons (size_of u) (map size_of ts), ap size_of is)
-sum_at (u ∷ ts) (suc i) t within is = omega (arith, sum_cons (size_of u) (map size_of ts), sum_at ts i t (omega arith) is)
+pub sum_at : {X : Type 0} (f : X → ℕ) (xs : List X) (i : ℕ) (x : X) → i < length xs → x ≡ get_or xs i x → f x ≤ sum (map f xs)
+sum_at f [] i x within is = absurd (omega arith)
+sum_at f (y ∷ xs) zero x within is = omega (arith, sum_cons (f y) (map f xs), ap f is)
+sum_at f (y ∷ xs) (suc i) x within is = omega (arith, sum_cons (f y) (map f xs), sum_at f xs i x (omega arith) is)
 
 pub too_large : (ts : List FoTerm) (i : ℕ) (t : FoTerm) → i < length ts → t ≡ get_or ts i t → 65535 < size_of t → 65535 < size_of_all ts
-too_large ts i t within is large = omega (arith, sum_at ts i t within is)
+too_large ts i t within is large = omega (arith, sum_at size_of ts i t within is)
 
 size_some : (t : FoTerm) → 1 ≤ size_of t
 size_some = by_cases (λ t. 1 ≤ size_of t) (λ x. omega (arith, size_var x)) (λ f args each. omega (arith, size_fun f args))

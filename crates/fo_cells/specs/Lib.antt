@@ -1,3 +1,4 @@
 pub mod Cells
 pub mod Print
+pub mod Binds
 pub mod inner

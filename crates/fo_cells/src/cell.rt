@@ -1,7 +1,8 @@
-ghost use Rattle.std.specs.Prelude.{◌≡◌, ◌↔◌, ◌≤◌, ◌-◌, ◌++◌, List, length, take, drop, IsTrue};
+ghost use Rattle.std.specs.Prelude.{◌≡◌, ◌↔◌, ℕ, ◌≤◌, ◌-◌, [], ◌∷◌, ◌++◌, List, length, take, drop, IsTrue, MatchOption};
 ghost use Rattle.fo_terms.specs.declared.term.FoTerm.{FoTerm};
 ghost use Rattle.fo_terms.specs.declared.atom.Atom.TheVariants.{Eq};
 ghost use Rattle.fo_cells.specs.declared.cell.Cell.{Cell};
+ghost use Rattle.fo_cells.specs.declared.cell.Cell.TheVariants.{Fun};
 ghost use Rattle.fo_terms.specs.Same.{is_term};
 ghost use Rattle.fo_terms.specs.Normal.{is_refuted};
 ghost use Rattle.fo_cells.specs.inner.Seen.{first_len};
@@ -86,6 +87,41 @@ fn front_len(cells: &[Cell]) -> usize
         None => 0,
         Some(Cell::Var(_)) => 1,
         Some(Cell::Fun { size, .. }) => *size as usize,
+    }
+}
+
+/// The cells of the first term, and those behind it.
+pub fn split_term(cells: &[Cell]) -> (&[Cell], &[Cell])
+    requires { (t : FoTerm) × (rest : List Cell) × (cells_of t ++ rest ≡ cells.now) }
+    ensures { (t : FoTerm) (rest : List Cell) → cells_of t ++ rest ≡ cells.now → (result.0.now ≡ cells_of t) × (result.1.now ≡ rest) }
+{
+    cells.split_at(term_len(cells))
+}
+
+/// The first cell, and those behind it.
+pub fn first_cell(cells: &[Cell]) -> Option<(Cell, &[Cell])>
+    ensures { MatchOption result (cells.now ≡ []) (λ parts. parts.0 ∷ parts.1.now ≡ cells.now) }
+{
+    match cells {
+        [] => None,
+        [cell, rest @ ..] => Some((*cell, rest)),
+    }
+}
+
+/// The cells behind the first one, where this is of that symbol with as many arguments.
+pub fn after_symbol(cells: &[Cell], arity: u16, symbol: u64) -> Option<&[Cell]>
+    ensures { MatchOption result ((size : ℕ) (rest : List Cell) → Fun arity size symbol ∷ rest ≡ cells.now → ⊥) (λ rest. (size : ℕ) × (Fun arity size symbol ∷ rest.now ≡ cells.now)) }
+{
+    match cells {
+        [
+            Cell::Fun {
+                arity: n,
+                symbol: f,
+                ..
+            },
+            rest @ ..,
+        ] if *n == arity && *f == symbol => Some(rest),
+        _ => None,
     }
 }
 

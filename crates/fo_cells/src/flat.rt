@@ -1,9 +1,9 @@
-ghost use Rattle.std.specs.Prelude.{◌≡◌, ◌↔◌, ◌<◌, ◌&&◌, [], ◌∷◌, ◌++◌, Some, length, slice_get, map, sum, IsTrue, IfOk, OnOk, OnErr};
+ghost use Rattle.std.specs.Prelude.{◌≡◌, ◌↔◌, ◌<◌, ◌-◌, ◌^◌, ◌&&◌, [], ◌∷◌, ◌++◌, Some, length, slice_get, map, sum, IsTrue, IfOk, OnOk, OnErr, MatchBool, MatchOption};
 ghost use Rattle.std.specs.List.{list_any};
 ghost use Rattle.fo_terms.specs.declared.term.FoTerm.{FoTerm};
 ghost use Rattle.fo_terms.specs.declared.literal.Literal.{Literal};
 ghost use Rattle.fo_terms.specs.declared.atom.Atom.TheVariants.{Holds, Eq};
-ghost use Rattle.fo_terms.specs.Weight.{literal_size};
+ghost use Rattle.fo_terms.specs.Weight.{literal_size, clause_size};
 ghost use Rattle.fo_terms.specs.Same.{is_literal};
 ghost use Rattle.fo_terms.specs.Normal.{is_identity, is_tautology, complement, numbered};
 ghost use Rattle.fo_terms.specs.inner.Gathered.{kept};
@@ -13,7 +13,10 @@ ghost use Rattle.fo_cells.specs.inner.Seen.{IsMadeOf};
 use crate::cell::{is_doubled, is_refuted, is_row, part};
 use crate::place::Place;
 use crate::renumbering::{gather, renumber};
+use crate::trees::is_equality;
+use crate::writing::put_atom;
 use crate::{Cell, Cells};
+use fo_terms::{Clause, Literal};
 use std::alloc::Global;
 use std::marker::Model;
 use text_kit::NoMemory;
@@ -193,6 +196,44 @@ impl FlatClause {
                 Err(NoMemory)
             }
         }
+    }
+
+    /// Appends the literal, also where it is there already; one of which a term has more than 65,535 symbols and variables is given up. Then, as
+    /// for want of memory, the literals stay as they were.
+    pub fn push(&mut self, l: &Literal) -> Result<bool, NoMemory>
+        ensures ok { IfOk result (λ made. MatchBool made (self.new ≡ self.old ++ l.now ∷ []) ((2 ^ 16 - 1 < literal_size l.now) × (self.new ≡ self.old))) }
+        ensures err { OnErr result (self.new ≡ self.old) }
+    {
+        let start = self.cells.len();
+        if !put_atom(&l.atom, &mut self.cells)? {
+            return Ok(false);
+        }
+        let place = Place {
+            positive: l.positive,
+            equation: is_equality(&l.atom),
+            start,
+            end: self.cells.len(),
+        };
+        match self.places.push(place) {
+            Ok(()) => Ok(true),
+            Err(_) => {
+                self.cells.cut(start);
+                Err(NoMemory)
+            }
+        }
+    }
+
+    /// The literals of the clause, or `None` where a term of it has more than 65,535 symbols and variables.
+    pub fn of(alloc: Global, c: &Clause) -> Result<Option<FlatClause>, NoMemory>
+        ensures { IfOk result (λ made. MatchOption made (2 ^ 16 - 1 < clause_size c.now) (λ flat. flat ≡ c.now.literals)) }
+    {
+        let mut flat = FlatClause::begin(alloc);
+        for l in c.literals.as_slice() {
+            if !flat.push(l)? {
+                return Ok(None);
+            }
+        }
+        Ok(Some(flat))
     }
 
     /// Numbers the variables from 0 in the order of their first occurrence. Variables are sought by a walk over those that were found.

@@ -1,6 +1,7 @@
 //! First-order terms and clauses as cells in reading order, which are compared, weighed and kept with hardly any allocation.
 #![tactic(auto)]
 
+mod binds;
 mod cell;
 mod cells;
 mod flat;
@@ -10,7 +11,8 @@ mod renumbering;
 mod trees;
 mod writing;
 
-pub use cell::{Cell, same_cells, term_len};
+pub use binds::{Binds, bound};
+pub use cell::{Cell, after_symbol, first_cell, same_cells, split_term, term_len};
 pub use cells::Cells;
 pub use flat::FlatClause;
 pub use print::print_of;

@@ -87,7 +87,7 @@ fn is_all(rest: Option<&[Cell]>) -> bool
     }
 }
 
-fn is_equality(a: &Atom) -> bool
+pub(crate) fn is_equality(a: &Atom) -> bool
     ensures { result ≡ is_equation a.now }
 {
     match a {

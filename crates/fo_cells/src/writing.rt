@@ -1,10 +1,10 @@
-ghost use Rattle.std.specs.Prelude.{◌≡◌, ◌+◌, ◌-◌, ◌^◌, ◌<◌, ◌∷◌, ◌++◌, length, take, map, IfOk};
+ghost use Rattle.std.specs.Prelude.{◌≡◌, ◌+◌, ◌-◌, ◌^◌, ◌<◌, ◌∷◌, ◌++◌, length, take, map, IfOk, OnErr};
 ghost use Rattle.std.specs.Bool.{MatchBool};
-ghost use Rattle.fo_terms.specs.Weight.{size_of, size_of_all};
-ghost use Rattle.fo_cells.specs.Cells.{cells_of, joined, symbol_cells};
+ghost use Rattle.fo_terms.specs.Weight.{size_of, size_of_all, atom_size};
+ghost use Rattle.fo_cells.specs.Cells.{cells_of, joined, symbol_cells, atom_cells};
 
 use crate::{Cell, Cells};
-use fo_terms::FoTerm;
+use fo_terms::{Atom, FoTerm};
 use text_kit::NoMemory;
 
 /// The greatest number that a cell can say.
@@ -70,4 +70,39 @@ fn put_all(terms: &[FoTerm], out: &mut Cells) -> Result<bool, NoMemory>
         }
     }
     Ok(true)
+}
+
+fn put_terms(a: &Atom, out: &mut Cells) -> Result<bool, NoMemory>
+    ensures written { IfOk result (λ r. MatchBool r (out.new ≡ out.old ++ atom_cells a.now) (2 ^ 16 - 1 < atom_size a.now)) }
+    ensures kept { take (length out.old) out.new ≡ out.old }
+{
+    match a {
+        Atom::Holds(t) => put_term(t, out),
+        Atom::Eq(s, t) => {
+            if !put_term(s, &mut *out)? {
+                return Ok(false);
+            }
+            put_term(t, out)
+        }
+    }
+}
+
+/// Appends the cells of an atom, or gives it up where a term of it has more than 65,535 symbols and variables. Then, as for want of memory, the
+/// row stays as it was.
+pub fn put_atom(a: &Atom, out: &mut Cells) -> Result<bool, NoMemory>
+    ensures written { IfOk result (λ r. MatchBool r (out.new ≡ out.old ++ atom_cells a.now) ((2 ^ 16 - 1 < atom_size a.now) × (out.new ≡ out.old))) }
+    ensures err { OnErr result (out.new ≡ out.old) }
+{
+    let start = out.len();
+    match put_terms(a, &mut *out) {
+        Ok(true) => Ok(true),
+        Ok(false) => {
+            out.cut(start);
+            Ok(false)
+        }
+        Err(NoMemory) => {
+            out.cut(start);
+            Err(NoMemory)
+        }
+    }
 }

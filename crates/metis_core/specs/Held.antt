@@ -16,7 +16,7 @@ use Rattle.metis_core.specs.State.{State, without}
 use Rattle.metis_core.specs.Pick.{IsOldest, IsLightest}
 use Rattle.metis_core.specs.Offer.{Passed, on, over, found, spent, most_kept}
 use Rattle.metis_core.specs.Search.{position_of}
-use Rattle.metis_core.specs.Stock.{IsIndex, AreMarks, clauses}
+use Rattle.metis_core.specs.Stock.{IsIndex, AreMarks, AreReady, clauses}
 use Rattle.metis_core.specs.Units.{AreParted}
 use Rattle.metis_core.specs.Reach.{AreReach}
 
@@ -31,6 +31,7 @@ pub record IsSound (stock : Stock) : Type 0 where
   pub waiting : All (λ e. e.number < length stock.lines) stock.waiting
   pub parted : AreParted stock.lines stock.active stock.rest stock.units
   pub marks : AreMarks stock.lines stock.rest stock.marks
+  pub ready : AreReady stock.lines stock.rest stock.ready
   pub reach : AreReach stock.positions stock.lines stock.active stock.reach
   pub few : length stock.lines ≤ most_kept
 

@@ -1,6 +1,6 @@
-ghost use Rattle.std.specs.Prelude.{◌≡◌, ◌≢◌, true, false, ◌↔◌, ◌<◌, ◌≤◌, ◌++◌, ◌∷◌, [], IsTrue, IfOk, OnOk, Some, slice_get, slice_index_or, length, MatchBool, MatchOption};
+ghost use Rattle.std.specs.Prelude.{◌≡◌, ◌≢◌, true, false, ◌↔◌, ◌<◌, ◌≤◌, ◌++◌, ◌∷◌, [], IsTrue, IfOk, IfSome, OnOk, Some, slice_get, slice_index_or, length, MatchBool, MatchOption};
 ghost use Rattle.cover_marks.specs.Marks.{clause_marks};
-ghost use Rattle.metis_core.specs.Stock.{clauses};
+ghost use Rattle.metis_core.specs.Stock.{clauses, IsReady};
 ghost use Rattle.fo_terms.specs.declared.clause.Clause.{Clause};
 ghost use Rattle.fo_terms.specs.Weight.{clause_size};
 ghost use Rattle.fo_infer.specs.Subsumption.{Subsumes};
@@ -15,7 +15,8 @@ use crate::known::{Places, is_flat_known, is_known, note};
 use crate::stop::Stop;
 use crate::units::{as_unit, is_unit_subsumed, put_unit};
 use crate::waiting::{Entry, Waiting};
-use cover_marks::{ClauseMarks, may_subsume};
+use cover_marks::{ClauseMarks, marks_of_flat, may_subsume};
+use flat_subsume::Subsumer;
 use fo_cells::{FlatClause, print_of};
 use fo_infer::{Line, Origin, subsumes};
 use fo_terms::Clause;
@@ -48,6 +49,8 @@ pub struct Stock {
     pub rest: Rows<u32>,
     /// the marks of the literals of these others, in their order
     pub marks: Rows<ClauseMarks>,
+    /// these others as cells, in their order, where they can be written so
+    pub ready: Rows<Option<Subsumer>>,
     pub waiting: Waiting,
 }
 
@@ -69,36 +72,60 @@ pub fn empty_stock(alloc: Global, positions: Positions) -> Stock
         units: None,
         rest: Rows::begin(alloc),
         marks: Rows::begin(alloc),
+        ready: Rows::begin(alloc),
         waiting: Waiting::begin(alloc),
     }
+}
+
+/// What a prepared clause tells, where there is one.
+fn tries(ready: &Option<Subsumer>, c: &FlatClause) -> Option<bool>
+    ensures { (p : Clause) → IsReady p ready.now → IfSome result (λ b. IsTrue b ↔ Subsumes p (record { literals = c.now })) }
+{
+    match ready {
+        Some(subsumer) => subsumer.tries(c),
+        None => None,
+    }
+}
+
+/// Whether the clause at this place among the rest subsumes the clause, by trees and however long it takes.
+fn is_tree_subsumed_at(stock: &Stock, k: usize, c: &FlatClause) -> Result<bool, NoMemory>
+    requires sound { IsSound stock.now }
+    requires place { k < length stock.now.rest }
+    ensures { IfOk result (λ b. (p : Clause) → slice_get (clauses stock.now.lines) (slice_index_or stock.now.rest k 0) ≡ Some p → IsTrue b ↔ Subsumes p (record { literals = c.now })) }
+{
+    let n = *stock.rest.at(k);
+    let tree = c.to_clause(stock.alloc)?;
+    let made = subsumes(stock.alloc, &stock.lines.at(n as usize).clause, &tree)?;
+    Ok(made)
 }
 
 /// Whether the clause at this place among the rest, whose marks are looked at first, subsumes the clause with these marks.
 fn is_subsumed_at(
     stock: &Stock,
     k: usize,
-    c: &Clause,
+    c: &FlatClause,
     marks: &ClauseMarks,
 ) -> Result<bool, NoMemory>
     requires sound { IsSound stock.now }
     requires place { k < length stock.now.rest }
-    requires marks { marks.now ≡ clause_marks c.now }
-    ensures { IfOk result (λ b. (p : Clause) → slice_get (clauses stock.now.lines) (slice_index_or stock.now.rest k 0) ≡ Some p → IsTrue b ↔ Subsumes p c.now) }
+    requires marks { marks.now ≡ clause_marks (record { literals = c.now }) }
+    ensures { IfOk result (λ b. (p : Clause) → slice_get (clauses stock.now.lines) (slice_index_or stock.now.rest k 0) ≡ Some p → IsTrue b ↔ Subsumes p (record { literals = c.now })) }
 {
     if !may_subsume(stock.marks.at(k), marks) {
         return Ok(false);
     }
-    let n = *stock.rest.at(k);
-    let made = subsumes(stock.alloc, &stock.lines.at(n as usize).clause, c)?;
-    Ok(made)
+    match tries(stock.ready.at(k), c) {
+        Some(told) => Ok(told),
+        None => is_tree_subsumed_at(stock, k, c),
+    }
 }
 
 /// Whether one of the rest of the active clauses subsumes the clause.
-fn is_subsumed(stock: &Stock, c: &Clause) -> Result<bool, NoMemory>
+fn is_subsumed(stock: &Stock, c: &FlatClause) -> Result<bool, NoMemory>
     requires { IsSound stock.now }
-    ensures { IfOk result (λ b. IsTrue b ↔ ((p : Clause) × IsAmong stock.now.rest stock.now.lines p × Subsumes p c.now)) }
+    ensures { IfOk result (λ b. IsTrue b ↔ ((p : Clause) × IsAmong stock.now.rest stock.now.lines p × Subsumes p (record { literals = c.now }))) }
 {
-    let marks = cover_marks::marks_of(stock.alloc, c)?;
+    let marks = marks_of_flat(stock.alloc, c)?;
     for k in 0..stock.rest.len() {
         if is_subsumed_at(stock, k, c, &marks)? {
             return Ok(true);
@@ -163,7 +190,7 @@ pub fn offer(stock: &mut Stock, clause: Clause, origin: Origin) -> Result<(), St
     Ok(())
 }
 
-/// Whether a clause is kept out before it stands as a tree: it is too heavy, or a tautology, or kept already. Then only an active clause
+/// Whether a clause is soon kept out: it is too heavy, or a tautology, or kept already. Then only an active clause
 /// that subsumes it can keep it out.
 fn is_soon_barred(stock: &Stock, c: &FlatClause) -> bool
     requires { IsSound stock.now }
@@ -202,13 +229,13 @@ pub fn offer_flat(stock: &mut Stock, flat: &FlatClause, origin: Origin) -> Resul
     if is_unit_subsumed(&stock.units, flat) {
         return Ok(());
     }
-    let clause = flat.to_clause(stock.alloc)?;
-    if is_subsumed(&*stock, &clause)? {
+    if is_subsumed(&*stock, flat)? {
         return Ok(());
     }
     if stock.lines.len() >= MOST_KEPT {
         return Err(Stop::Full);
     }
+    let clause = flat.to_clause(stock.alloc)?;
     keep(stock, clause, origin)?;
     Ok(())
 }
@@ -243,7 +270,9 @@ fn put_active(stock: &mut Stock, number: u32) -> Result<(), NoMemory>
         }
         None => {
             let marks = cover_marks::marks_of(stock.alloc, clause)?;
+            let ready = Subsumer::of(stock.alloc, clause)?;
             stock.marks.push(marks)?;
+            stock.ready.push(ready)?;
             stock.rest.push(number)?;
             Ok(())
         }

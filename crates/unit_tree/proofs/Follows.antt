@@ -7,9 +7,10 @@ use Rattle.fo_cells.specs.Cells.{joined, cells_of}
 use Rattle.unit_tree.specs.declared.token.Token.{Token}
 use Rattle.unit_tree.specs.declared.token.Token.TheVariants.{Head}
 use Rattle.unit_tree.specs.declared.token.Edge.{Edge}
-use Rattle.unit_tree.specs.declared.following.Binds.{Binds}
+use Rattle.fo_cells.specs.declared.binds.Binds.{Binds}
+use Rattle.fo_cells.specs.Binds.{Agrees, binds_of}
 use Rattle.unit_tree.specs.Tree.{Leads}
-use Rattle.unit_tree.specs.inner.Following.{GoesOn, Matches, Agrees, binds_of}
+use Rattle.unit_tree.specs.inner.Following.{GoesOn, Matches}
 
 -- the way behind an edge is that of the terms
 abbrev pub Behind : List (List Edge) → Edge → List (ℕ × List Cell) → List FoTerm → Type 0

@@ -1,6 +1,6 @@
 -- What literals of the tree subsume, by words.
 use Rattle.std.proofs.Common.{◌≡◌, ℕ, ◌+◌, ◌<◌, ◌≤◌, below_more, Bool, true, Some, List, [], ◌∷◌, ◌++◌, length, map, get_or, slice_get, refl, sym, ap, subst, ◌∙◌, arith}
-use Rattle.std.proofs.lemmas.List.{append_assoc, append-nil, map-append}
+use Rattle.std.proofs.lemmas.List.{append_assoc, map-append}
 use Rattle.std.proofs.lemmas.Option.{slice_get-get_or}
 use Rattle.fo_terms.specs.declared.term.FoTerm.{FoTerm}
 use Rattle.fo_terms.specs.declared.atom.Atom.{Atom}
@@ -10,6 +10,7 @@ use Rattle.fo_terms.specs.Substitution.{put, put_atom, put_literal}
 use Rattle.fo_terms.specs.Normal.{atom_terms}
 use Rattle.fo_cells.specs.declared.cell.Cell.{Cell}
 use Rattle.fo_cells.specs.Cells.{joined, cells_of, is_equation, atom_cells}
+use Rattle.fo_cells.proofs.Rows.{row_of}
 use Rattle.unit_tree.specs.declared.token.Token.{Token}
 use Rattle.unit_tree.specs.declared.token.Token.TheVariants.{Head, End}
 use Rattle.unit_tree.specs.declared.token.Edge.{Edge}
@@ -18,11 +19,6 @@ use Rattle.unit_tree.specs.Tree.{token_of, word_of, SubsumesOne}
 use Rattle.unit_tree.specs.inner.Following.{GoesOn, Matches}
 use Rattle.unit_tree.proofs.Matching.{tokens, Parsed, fits, parse, ends}
 use Rattle.unit_tree.proofs.Ways.{joins, goes_from_root}
-
--- the cells of an atom are those of its terms
-pub row_of : (a : Atom) → joined (map cells_of (atom_terms a)) ≡ atom_cells a
-row_of (Holds t) = append-nil (cells_of t)
-row_of (Eq s t) = ap (λ l. cells_of s ++ l) (append-nil (cells_of t))
 
 atom_word : Atom → List Token
 atom_word a = map token_of (atom_cells a) ++ End ∷ []

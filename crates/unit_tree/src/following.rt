@@ -1,64 +1,15 @@
-ghost use Rattle.std.specs.Prelude.{◌≡◌, ◌↔◌, ℕ, ◌<◌, ◌∷◌, ◌++◌, List, length, map, IsTrue, MatchOption};
+ghost use Rattle.std.specs.Prelude.{◌≡◌, ◌↔◌, ℕ, ◌<◌, ◌∷◌, List, length, map, IsTrue};
 ghost use Rattle.fo_terms.specs.declared.term.FoTerm.{FoTerm};
-ghost use Rattle.fo_cells.specs.declared.cell.Cell.{Cell};
-ghost use Rattle.fo_cells.specs.declared.cell.Cell.TheVariants.{Fun};
 ghost use Rattle.fo_cells.specs.Cells.{joined, cells_of};
 ghost use Rattle.unit_tree.specs.declared.token.Token.{Token};
 ghost use Rattle.unit_tree.specs.declared.token.Token.TheVariants.{Variable};
 ghost use Rattle.unit_tree.specs.Tree.{IsTree};
-ghost use Rattle.unit_tree.specs.inner.Following.{GoesOn, Matches, Agrees, IsFree, binds_of};
+ghost use Rattle.fo_cells.specs.Binds.{Agrees, binds_of};
+ghost use Rattle.unit_tree.specs.inner.Following.{GoesOn, Matches};
 
 use crate::token::{Edge, Token, edges_of};
-use fo_cells::{Cell, same_cells, term_len};
+use fo_cells::{Binds, Cell, after_symbol, bound, same_cells, split_term};
 use text_kit::Rows;
-
-/// The variables that stand for cells, the latest first.
-#[derive(Clone, Copy)]
-pub enum Binds<'a> {
-    Nothing,
-    More(u64, &'a [Cell], &'a Binds<'a>),
-}
-
-/// The cells that the variable stands for.
-fn bound<'a>(binds: &Binds<'a>, x: u64) -> Option<&'a [Cell]>
-    ensures { MatchOption result (IsFree x (binds_of binds.now)) (λ cells. (v : ℕ → FoTerm) → Agrees v (binds_of binds.now) → cells_of (v x) ≡ cells.now) }
-{
-    match binds {
-        Binds::Nothing => None,
-        Binds::More(y, cells, rest) => {
-            if *y == x {
-                Some(*cells)
-            } else {
-                bound(*rest, x)
-            }
-        }
-    }
-}
-
-/// The cells behind the first one, where this is of that symbol.
-fn behind_symbol(cells: &[Cell], arity: u16, symbol: u64) -> Option<&[Cell]>
-    ensures { MatchOption result ((size : ℕ) (rest : List Cell) → Fun arity size symbol ∷ rest ≡ cells.now → ⊥) (λ rest. (size : ℕ) × (Fun arity size symbol ∷ rest.now ≡ cells.now)) }
-{
-    match cells {
-        [
-            Cell::Fun {
-                arity: n,
-                symbol: f,
-                ..
-            },
-            rest @ ..,
-        ] if *n == arity && *f == symbol => Some(rest),
-        _ => None,
-    }
-}
-
-/// The cells of the first term, and those behind it.
-fn cut(cells: &[Cell]) -> (&[Cell], &[Cell])
-    requires { (t : FoTerm) × (rest : List Cell) × (cells_of t ++ rest ≡ cells.now) }
-    ensures { (t : FoTerm) (rest : List Cell) → cells_of t ++ rest ≡ cells.now → (result.0.now ≡ cells_of t) × (result.1.now ≡ rest) }
-{
-    cells.split_at(term_len(cells))
-}
 
 /// Whether a way from this node on is that of the terms.
 #[cycle(following)]
@@ -88,7 +39,7 @@ fn follows(nodes: &[Rows<Edge>], edge: &Edge, cells: &[Cell], binds: &Binds) -> 
     match edge.token {
         Token::Head { .. } => false,
         Token::End => cells.is_empty(),
-        Token::Symbol { arity, symbol } => match behind_symbol(&*cells, arity, symbol) {
+        Token::Symbol { arity, symbol } => match after_symbol(&*cells, arity, symbol) {
             Some(rest) => goes_on(&*nodes, edge.to, rest, &*binds),
             None => false,
         },
@@ -107,7 +58,7 @@ fn binds_on(nodes: &[Rows<Edge>], at: usize, x: u64, cells: &[Cell], binds: &Bin
     if cells.is_empty() {
         return false;
     }
-    let (first, rest) = cut(&*cells);
+    let (first, rest) = split_term(&*cells);
     match bound(&*binds, x) {
         Some(held) => {
             if !same_cells(held, first) {

@@ -7,10 +7,10 @@ ghost use Rattle.unit_tree.specs.declared.token.Token.TheVariants.{Head};
 ghost use Rattle.unit_tree.specs.Tree.{IsTree, Holds, SubsumesOne};
 ghost use Rattle.unit_tree.specs.inner.Following.{GoesOn, Matches};
 
-use crate::following::{Binds, goes_on};
+use crate::following::goes_on;
 use crate::growing::put_word;
 use crate::token::{Edge, Token, edges_of, same_token};
-use fo_cells::{Cell, FlatClause};
+use fo_cells::{Binds, Cell, FlatClause};
 use std::alloc::Global;
 use std::marker::Model;
 use text_kit::{NoMemory, Rows};

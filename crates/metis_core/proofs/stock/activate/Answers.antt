@@ -15,6 +15,7 @@ put_active-requires-clause-sound c =
           (All-filter (λ (d : Entry). not (d.number == e.number)) (λ d. d.number < length old.lines) old.waiting c.requires.sound.waiting);
       parted = c.requires.sound.parted;
       marks = c.requires.sound.marks;
+      ready = c.requires.sound.ready;
       reach = c.requires.sound.reach;
       few = c.requires.sound.few;
     }

@@ -6,4 +6,4 @@ use Rattle.metis_core.proofs.stock.is_subsumed.Given as goal
 
 -- none of the rest so far
 abbrev pub invariant-loop-k : goal.invariant-loop-k
-invariant-loop-k l = (j : ℕ) → j < l.k → (p : Clause) → slice_get (clauses l.stock.lines) (get_or l.stock.rest j 0) ≡ Some p → Subsumes p l.c → ⊥
+invariant-loop-k l = (j : ℕ) → j < l.k → (p : Clause) → slice_get (clauses l.stock.lines) (get_or l.stock.rest j 0) ≡ Some p → Subsumes p (record { literals = l.c }) → ⊥

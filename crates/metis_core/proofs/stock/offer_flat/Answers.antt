@@ -1,6 +1,5 @@
 use Rattle.std.proofs.Common.{◌≡◌, subst, sym, arith, refl}
 use Rattle.std.proofs.lemmas.List.{nil_from_length}
-use Rattle.fo_infer.specs.Subsumption.{Subsumes}
 use Rattle.metis_core.specs.Offer.{Offer, on, empty, barred, subsumed, kept, full}
 use Rattle.metis_core.specs.State.{keeping}
 use Rattle.metis_core.specs.Held.{state_of}
@@ -21,17 +20,15 @@ returns-then-is_unit_subsumed-clause-offered c =
 
 pub returns-then-branch-clause-offered : goal.returns-then-branch-clause-offered
 returns-then-branch-clause-offered c =
-    let tree : c.in_ok-clause-2.clause ≡ record { literals = c.args.flat.now } = λ k. record { literals = c.in_ok-clause-2.ensures k } in
-    let found = among_subsumes c.args.stock.now c.requires.parted c.in_ok-clause-2.clause (c.in_ok-is_subsumed.ensures.0 c.if-branch.true) in
-    barred (nonempty c.args.flat.now c.len.result c.len.ensures (omega arith)) (subsumed found.0 found.1 (subst (Subsumes found.0) tree found.2))
+    let found = among_subsumes c.args.stock.now c.requires.parted (record { literals = c.args.flat.now }) (c.in_ok-is_subsumed.ensures.0 c.if-branch.true) in
+    barred (nonempty c.args.flat.now c.len.result c.len.ensures (omega arith)) (subsumed found.0 found.1 found.2)
 
 pub returns-then-len-ge-MOST_KEPT-clause-offered : goal.returns-then-len-ge-MOST_KEPT-clause-offered
 returns-then-len-ge-MOST_KEPT-clause-offered c =
-    let tree : c.in_ok-clause-2.clause ≡ record { literals = c.args.flat.now } = λ k. record { literals = c.in_ok-clause-2.ensures k } in
     full (nonempty c.args.flat.now c.len.result c.len.ensures (omega arith))
     (λ h. none_subsumes c.args.stock.now c.requires.parted (record { literals = c.args.flat.now })
     (λ unit. (let wrong = c.if-is_unit_subsumed.ensures.1 unit in cc))
-    (λ found. (let wrong = c.in_ok-is_subsumed.ensures.1 (found.0, found.1, subst (Subsumes found.0) (sym tree) found.2) in cc))
+    (λ found. (let wrong = c.in_ok-is_subsumed.ensures.1 found in cc))
     (c.if-is_soon_barred.ensures.left refl h))
     (omega (arith, held_as_many c.args.stock.now.lines))
 
@@ -42,6 +39,6 @@ returns-clause-offered c =
     (kept (nonempty c.args.flat.now c.len.result c.len.ensures (omega arith))
     (λ h. none_subsumes c.args.stock.now c.requires.parted (record { literals = c.args.flat.now })
     (λ unit. (let wrong = c.if-is_unit_subsumed.ensures.1 unit in cc))
-    (λ found. (let wrong = c.in_ok-is_subsumed.ensures.1 (found.0, found.1, subst (Subsumes found.0) (sym tree) found.2) in cc))
+    (λ found. (let wrong = c.in_ok-is_subsumed.ensures.1 found in cc))
     (c.if-is_soon_barred.ensures.left refl h))
     (omega (arith, held_as_many c.args.stock.now.lines)))

@@ -1,10 +1,11 @@
 use Rattle.std.proofs.Common.{◌++◌, false, length, map, get_or, refl, sym, ap, ◌∙◌, arith}
 use Rattle.fo_cells.specs.Cells.{joined, cells_of}
 use Rattle.unit_tree.specs.declared.token.Token.TheVariants.{Head}
-use Rattle.unit_tree.specs.inner.Following.{binds_of}
+use Rattle.fo_cells.specs.Binds.{binds_of}
+use Rattle.fo_cells.proofs.Binding.{agrees_new, more_agrees}
+use Rattle.fo_cells.proofs.Rows.{never, empty_test, some_test, split, first_of}
 use Rattle.unit_tree.proofs.Follows.{item_leads, found_by, none_more, from_edges}
-use Rattle.unit_tree.proofs.Steps.{never, empty_test, some_test, no_term, no_head, at_end, at_symbol, no_symbol, at_variable, split, first_of, held_other, held_same, held_new, agrees_new}
-use Rattle.unit_tree.proofs.Steps.{more_agrees, more_from}
+use Rattle.unit_tree.proofs.Steps.{no_term, no_head, at_end, at_symbol, no_symbol, at_variable, held_other, held_same, held_new, more_from}
 use Rattle.unit_tree.proofs.following.+following.Goals as goal
 
 pub goes_on-follows-requires : goal.goes_on-follows-requires
@@ -59,8 +60,8 @@ pub binds_on-returns-then-is_empty : goal.binds_on-returns-then-is_empty
 binds_on-returns-then-is_empty t c = λ ts row.
     (λ h. never h, λ h. absurd (no_term c.args.nodes.now c.args.at c.args.x (binds_of c.args.binds.now) ts (row ∙ empty_test c.args.cells.now c.is_empty.result c.is_empty.ensures c.if-is_empty.true) h))
 
-pub binds_on-cut-requires : goal.binds_on-cut-requires
-binds_on-cut-requires t c =
+pub binds_on-split_term-requires : goal.binds_on-split_term-requires
+binds_on-split_term-requires t c =
     let row = c.requires.row.1 in
     let ts = c.requires.row.0 in
     let first = first_of ts c.args.cells.now row (some_test c.args.cells.now c.is_empty.result c.is_empty.ensures c.if-is_empty.false) in
@@ -71,7 +72,7 @@ binds_on-goes_on-requires t c =
     let row = c.requires.row.1 in
     let ts = c.requires.row.0 in
     let first = first_of ts c.args.cells.now row (some_test c.args.cells.now c.is_empty.result c.is_empty.ensures c.if-is_empty.false) in
-    let parts = c.cut.ensures first.0 (joined (map cells_of first.1)) first.3 in
+    let parts = c.split_term.ensures first.0 (joined (map cells_of first.1)) first.3 in
     (omega (arith, c.decreases, c.requires.within), (c.requires.tree, (c.requires.within, ((first.1, sym parts.1), c.requires.agree))))
 
 pub binds_on-goes_on-requires-in-None : goal.binds_on-goes_on-requires-in-None
@@ -79,7 +80,7 @@ binds_on-goes_on-requires-in-None t c =
     let row = c.requires.row.1 in
     let ts = c.requires.row.0 in
     let first = first_of ts c.args.cells.now row (some_test c.args.cells.now c.is_empty.result c.is_empty.ensures c.if-is_empty.false) in
-    let parts = c.cut.ensures first.0 (joined (map cells_of first.1)) first.3 in (
+    let parts = c.split_term.ensures first.0 (joined (map cells_of first.1)) first.3 in (
       omega (arith, c.decreases, c.requires.within),
       (
         c.requires.tree,
@@ -87,7 +88,7 @@ binds_on-goes_on-requires-in-None t c =
           c.requires.within,
           (
             (first.1, sym parts.1),
-            more_agrees c.args.x c.cut.result.0 c.args.binds (agrees_new c.requires.agree.0 c.args.x first.0 c.cut.result.0.now (binds_of c.args.binds.now) c.in-None.ensures c.requires.agree.1 parts.0),
+            more_agrees c.args.x c.split_term.result.0 c.args.binds (agrees_new c.requires.agree.0 c.args.x first.0 c.split_term.result.0.now (binds_of c.args.binds.now) c.in-None.ensures c.requires.agree.1 parts.0),
           ),
         ),
       ),
@@ -96,7 +97,7 @@ binds_on-goes_on-requires-in-None t c =
 pub binds_on-returns-then-not-same_cells : goal.binds_on-returns-then-not-same_cells
 binds_on-returns-then-not-same_cells t c = λ ts row.
     let first = first_of ts c.args.cells.now row (some_test c.args.cells.now c.is_empty.result c.is_empty.ensures c.if-is_empty.false) in
-    let parts = c.cut.ensures first.0 (joined (map cells_of first.1)) first.3 in (
+    let parts = c.split_term.ensures first.0 (joined (map cells_of first.1)) first.3 in (
       λ h. never h,
       λ h. absurd (held_other c.args.nodes.now c.args.at c.args.x (binds_of c.args.binds.now) first.0 ts first.1 first.2 c.in-Some.held.now c.in-Some.ensures
           (λ e. never (sym c.if-not-same_cells.true ∙ c.same_cells.ensures.1 (e ∙ sym parts.0))) h),
@@ -105,13 +106,13 @@ binds_on-returns-then-not-same_cells t c = λ ts row.
 pub binds_on-returns-else-not-same_cells : goal.binds_on-returns-else-not-same_cells
 binds_on-returns-else-not-same_cells t c = λ ts row.
     let first = first_of ts c.args.cells.now row (some_test c.args.cells.now c.is_empty.result c.is_empty.ensures c.if-is_empty.false) in
-    let parts = c.cut.ensures first.0 (joined (map cells_of first.1)) first.3 in
+    let parts = c.split_term.ensures first.0 (joined (map cells_of first.1)) first.3 in
     held_same c.args.nodes.now c.args.at c.args.x (binds_of c.args.binds.now) first.0 ts first.1 first.2 c.in-Some.held.now c.goes_on.result c.in-Some.ensures
     (c.same_cells.ensures.0 c.if-not-same_cells.false ∙ parts.0) (c.goes_on.ensures first.1 (sym parts.1))
 
 pub binds_on-returns-in-None : goal.binds_on-returns-in-None
 binds_on-returns-in-None t c = λ ts row.
     let first = first_of ts c.args.cells.now row (some_test c.args.cells.now c.is_empty.result c.is_empty.ensures c.if-is_empty.false) in
-    let parts = c.cut.ensures first.0 (joined (map cells_of first.1)) first.3 in
-    held_new c.args.nodes.now c.args.at c.args.x (binds_of c.args.binds.now) first.0 ts first.1 first.2 c.cut.result.0.now c.goes_on-in-None.result parts.0
-    (more_from c.args.nodes.now c.args.at c.args.x c.cut.result.0 c.args.binds first.1 c.goes_on-in-None.result (c.goes_on-in-None.ensures first.1 (sym parts.1)))
+    let parts = c.split_term.ensures first.0 (joined (map cells_of first.1)) first.3 in
+    held_new c.args.nodes.now c.args.at c.args.x (binds_of c.args.binds.now) first.0 ts first.1 first.2 c.split_term.result.0.now c.goes_on-in-None.result parts.0
+    (more_from c.args.nodes.now c.args.at c.args.x c.split_term.result.0 c.args.binds first.1 c.goes_on-in-None.result (c.goes_on-in-None.ensures first.1 (sym parts.1)))

@@ -1,5 +1,5 @@
 use Rattle.fo_terms.specs.Substitution.{var}
-use Rattle.unit_tree.proofs.Steps.{any_agrees}
+use Rattle.fo_cells.proofs.Binding.{any_agrees}
 use Rattle.unit_tree.proofs.tree.leads_on.Goals as goal
 
 pub goes_on-requires-clause-agree : goal.goes_on-requires-clause-agree

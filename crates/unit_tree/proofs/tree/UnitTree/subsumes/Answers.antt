@@ -1,8 +1,8 @@
 use Rattle.std.proofs.Common.{refl, sym, ◌∙◌, arith}
 use Rattle.fo_cells.proofs.Lists.{some_at}
 use Rattle.fo_terms.specs.Normal.{atom_terms}
-use Rattle.unit_tree.proofs.Steps.{never}
-use Rattle.unit_tree.proofs.Units.{row_of, reach_one, hit, not_more, none_at_all}
+use Rattle.fo_cells.proofs.Rows.{never, row_of}
+use Rattle.unit_tree.proofs.Units.{reach_one, hit, not_more, none_at_all}
 use Rattle.unit_tree.proofs.tree.UnitTree.subsumes.Goals as goal
 
 pub is_reached-requires-clause-row : goal.is_reached-requires-clause-row
