@@ -12,7 +12,7 @@ use Rattle.clause_ring.specs.Picks.{TakesLightest, IsNoHeavier}
 use Rattle.clause_ring.specs.inner.Ages.{Line, waiting, places, places_in, waiter, Comes, Leaves, IsTaken, IsOver}
 use Rattle.clause_ring.specs.inner.Buckets.{AreEmpty, IsFirstFilled}
 use Rattle.clause_ring.specs.inner.Rings.{IsRing, Ascends}
-use Rattle.clause_ring.proofs.Places.{stands-first, none-weighs, picked, waiting-append, waiting-waiter, waiting-picked, places-picked, places-other, places-comes, places-stay}
+use Rattle.clause_ring.proofs.Places.{stands-first, none-weighs, none-placed, picked, waiting-append, waiting-waiter, waiting-picked, places-picked, places-other, places-comes, places-stay}
 use Rattle.clause_ring.proofs.Orders.{All-without, Ascends-without, Ascends-push, lightest}
 
 filled-step : (b : Bool) (buckets : List (List ℕ)) (w v : ℕ) (x : List ℕ) (wanted : ℕ → List ℕ) → (v == w) ≡ b → w < length buckets → x ≡ wanted w
@@ -183,6 +183,9 @@ none-at (e ∷ es) light none =
 pub none-waits : (buckets : List (List ℕ)) (line : Line) → IsRing buckets line → AreEmpty buckets (length buckets) → waiting line.aged ≡ []
 none-waits buckets line ring empty =
     none-at (waiting line.aged) ring.light (λ v lt. none-weighs v line.gone line.aged (sym (ring.filled v lt) ∙ empty v (omega (arith, ring.many))))
+
+pub all-empty : (buckets : List (List ℕ)) (line : Line) → IsRing buckets line → waiting line.aged ≡ [] → AreEmpty buckets (length buckets)
+all-empty buckets line ring none v lt = ring.filled v (omega (arith, lt, ring.many)) ∙ none-placed v line.gone line.aged none
 
 -- what stands at a place in range, whatever is taken for one out of range
 pub held : (buckets : List (List ℕ)) (w : ℕ) (x : List ℕ) → w < length buckets → x ≡ get_or buckets w x → get_or buckets w [] ≡ x

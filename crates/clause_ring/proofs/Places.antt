@@ -92,6 +92,15 @@ pub none-weighs : (w at : ℕ) (aged : List Aged) → places w at aged ≡ [] �
 none-weighs w at [] e = All-nil (λ (e : Entry). e.weight ≡ w → ⊥)
 none-weighs w at (a ∷ more) e = none-here (waits_at w a) w at a more refl e (λ n f. none-weighs w n more f)
 
+no-place : (b same : Bool) (at : ℕ) (e : Entry) (es : List Entry) (ps : List ℕ) → (if b then e ∷ es else es) ≡ [] → (es ≡ [] → ps ≡ []) → (if b && same then at ∷ ps else ps) ≡ []
+no-place true same at e es ps none rest = cc
+no-place false same at e es ps none rest = rest none
+
+-- where no entry waits, none has a place
+pub none-placed : (w at : ℕ) (aged : List Aged) → waiting aged ≡ [] → places w at aged ≡ []
+none-placed w at [] none = refl
+none-placed w at (a ∷ more) none = no-place a.waits (a.entry.weight == w) at a.entry (waiting more) (places w (at + 1) more) none (λ rest. none-placed w (at + 1) more rest)
+
 -- an entry that was picked
 abbrev pub picked : Entry → Aged
 picked e = record { entry = e; waits = false }

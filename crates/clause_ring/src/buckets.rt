@@ -81,6 +81,13 @@ pub(crate) fn first_filled<L: Ledger>(buckets: &[Bucket], steps: &mut Steps<L>) 
     None
 }
 
+/// Whether no bucket holds a place.
+pub(crate) fn are_empty(buckets: &[Bucket]) -> bool
+    ensures { IsTrue result ↔ AreEmpty buckets.now (length buckets.now) }
+{
+    buckets.iter().all(|bucket| bucket.is_empty())
+}
+
 /// As many empty buckets.
 pub(crate) fn empty_buckets(alloc: Global, many: usize) -> Result<Vec<Bucket>, NoMemory>
     ensures { IfOk result (λ buckets. (length buckets.items ≡ many) × AreEmpty buckets.items many) }

@@ -1,8 +1,8 @@
-ghost use Rattle.std.specs.Prelude.{◌≡◌, ◌+◌, ◌<◌, ◌≤◌, [], ◌∷◌, ◌++◌, All, IfOk, OnOk, OnErr, MatchOption};
+ghost use Rattle.std.specs.Prelude.{◌≡◌, ◌+◌, ◌<◌, ◌≤◌, [], ◌∷◌, ◌++◌, All, ◌↔◌, IsTrue, IfOk, OnOk, OnErr, MatchOption};
 ghost use Rattle.clause_ring.specs.Picks.{TakesLightest};
 
 use crate::ages::Ages;
-use crate::buckets::{Bucket, empty_buckets, first_filled};
+use crate::buckets::{Bucket, are_empty, empty_buckets, first_filled};
 use crate::{Entry, Steps};
 use std::alloc::Global;
 use std::marker::Model;
@@ -46,6 +46,13 @@ impl Ring {
             buckets,
             ages: Ages::begin(alloc),
         })
+    }
+
+    /// Whether nothing waits. It looks at the buckets in turn, up to the first that holds an entry.
+    pub fn is_empty(&self) -> bool
+        ensures { IsTrue result ↔ (self.now ≡ []) }
+    {
+        are_empty(self.buckets.as_slice())
     }
 
     /// One more waits. A refused push leaves the ring as it was.

@@ -37,5 +37,6 @@ fn picks_in_turn(rt: HostRuntime) -> Result<(), Fail> {
     let mut ring = pushed(rt.alloc(), &[5, 2, 5, 2])?;
     let numbers = picked::<Brand>(&mut ring, Blank::new(1));
     assert_eq!(rt; numbers, [Some(1), Some(0), Some(3), Some(2), None]);
+    assert!(rt; ring.is_empty());
     Ok(())
 }

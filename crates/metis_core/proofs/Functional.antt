@@ -8,7 +8,7 @@ use Rattle.metis_core.specs.declared.given.Given.{Given}
 use Rattle.metis_core.specs.declared.given.Positions.{Positions}
 use Rattle.metis_core.specs.declared.premises.Premises.{Premises}
 use Rattle.metis_core.specs.declared.premises.Premises.TheVariants.{One, Two}
-use Rattle.metis_core.specs.declared.waiting.Entry.{Entry}
+use Rattle.clause_ring.specs.declared.entry.Entry.{Entry}
 use Rattle.metis_core.specs.State.{State, nothing, activating}
 use Rattle.metis_core.specs.Offer.{End, saturated, spent, Passed, on, over, Offer, empty, barred, kept, full, Through, done, next, ends}
 use Rattle.metis_core.specs.Pick.{Precedes, IsPicked, IsOldest, IsLightest}

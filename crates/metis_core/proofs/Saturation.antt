@@ -11,7 +11,7 @@ use Rattle.metis_core.specs.declared.given.Given.{Given}
 use Rattle.metis_core.specs.declared.given.Positions.{Positions}
 use Rattle.metis_core.specs.declared.premises.Premises.{Premises}
 use Rattle.metis_core.specs.declared.premises.Premises.TheVariants.{One, Two}
-use Rattle.metis_core.specs.declared.waiting.Entry.{Entry}
+use Rattle.clause_ring.specs.declared.entry.Entry.{Entry}
 use Rattle.metis_core.specs.State.{State, nothing, keeping, activating, without, IsActive}
 use Rattle.metis_core.specs.Offer.{Barred, tautology, heavy, subsumed, known, Passed, on, over, saturated, Offer, barred, kept, Through, done, next, ends}
 use Rattle.metis_core.specs.Search.{position_of, normal_forms, Infers, Inferred, pairs, Run, inputs, pick, Search, at_inputs, at_pick, nothing_waits}

@@ -9,7 +9,7 @@ use Rattle.fo_terms.specs.Weight.{clause_size}
 use Rattle.fo_terms.specs.Normal.{is_tautology}
 use Rattle.fo_infer.specs.Subsumption.{Subsumes}
 use Rattle.metis_core.specs.Offer.{Barred, tautology, heavy, subsumed, known}
-use Rattle.metis_core.specs.declared.waiting.Entry.{Entry}
+use Rattle.clause_ring.specs.declared.entry.Entry.{Entry}
 use Rattle.metis_core.specs.declared.stock.Stock.{Stock}
 use Rattle.metis_core.specs.State.{State, IsActive}
 use Rattle.metis_core.specs.Print.{clause_print}

@@ -15,7 +15,7 @@ use Rattle.metis_core.specs.declared.stop.Stop.TheVariants.{Found, Full, NoMemor
 use Rattle.metis_core.specs.State.{State}
 use Rattle.metis_core.specs.Offer.{Passed, on, over, End, found, spent, Through, next, ends}
 use Rattle.metis_core.specs.Search.{position_of, pairs}
-use Rattle.metis_core.specs.declared.waiting.Entry.{Entry}
+use Rattle.clause_ring.specs.declared.entry.Entry.{Entry}
 use Rattle.metis_core.specs.Pick.{IsOldest, IsLightest}
 use Rattle.metis_core.specs.declared.premises.Premises.TheVariants.{Two}
 use Rattle.metis_core.specs.Stock.{clauses}

@@ -11,7 +11,7 @@ use Rattle.metis_core.specs.declared.premises.Premises.TheVariants.{One, Two}
 use Rattle.metis_core.specs.declared.stock.Stock.{Stock}
 use Rattle.metis_core.specs.declared.stop.Stop.{Stop}
 use Rattle.metis_core.specs.declared.stop.Stop.TheVariants.{Found, Full, NoMemory}
-use Rattle.metis_core.specs.declared.waiting.Entry.{Entry}
+use Rattle.clause_ring.specs.declared.entry.Entry.{Entry}
 use Rattle.metis_core.specs.State.{State, without}
 use Rattle.metis_core.specs.Pick.{IsOldest, IsLightest}
 use Rattle.metis_core.specs.Offer.{Passed, on, over, found, spent, most_kept}

@@ -1,6 +1,6 @@
 -- Which waiting clause becomes the given clause.
-use Rattle.std.specs.Prelude.{◌≡◌, ℕ, ◌%◌, ◌<◌, ◌≤◌, ◌==◌, ◌⊎◌, List, All, AllPairs, Contains, MatchBool, Some, slice_get}
-use Rattle.metis_core.specs.declared.waiting.Entry.{Entry}
+use Rattle.std.specs.Prelude.{◌≡◌, ℕ, ◌%◌, ◌<◌, ◌≤◌, ◌==◌, ◌⊎◌, List, All, AllPairs, Contains, MatchBool}
+use Rattle.clause_ring.specs.declared.entry.Entry.{Entry}
 
 -- the entry of least number
 abbrev pub IsOldest : List Entry → Entry → Type 0
@@ -13,10 +13,6 @@ Precedes e d = (e.weight < d.weight) ⊎ ((e.weight ≡ d.weight) × (e.number �
 -- the entry of least weight, then number
 abbrev pub IsLightest : List Entry → Entry → Type 0
 IsLightest waiting e = Contains waiting e × All (Precedes e) waiting
-
--- the entry at the place has this property
-abbrev pub Holds : List Entry → ℕ → (Entry → Type 0) → Type 0
-Holds waiting at P = (e : Entry) × (slice_get waiting at ≡ Some e) × P e
 
 -- each number is less than all later ones
 abbrev pub AreAscending : List Entry → Type 0

@@ -7,7 +7,7 @@ use Rattle.fo_terms.specs.Normal.{normal_of}
 use Rattle.metis_core.specs.declared.given.Positions.{Positions}
 use Rattle.metis_core.specs.declared.given.Positions.TheVariants.{Tagged, Plain}
 use Rattle.metis_core.specs.declared.given.Given.{Given}
-use Rattle.metis_core.specs.declared.waiting.Entry.{Entry}
+use Rattle.clause_ring.specs.declared.entry.Entry.{Entry}
 use Rattle.metis_core.specs.declared.premises.Premises.{Premises}
 use Rattle.metis_core.specs.declared.premises.Premises.TheVariants.{One, Two}
 use Rattle.metis_core.specs.State.{State, nothing, activating}

@@ -6,7 +6,7 @@ use Rattle.fo_infer.specs.Lines.{FollowFrom}
 use Rattle.metis_core.specs.declared.given.Given.{Given}
 use Rattle.metis_core.specs.declared.turn.Turn.{Turn}
 use Rattle.metis_core.specs.declared.turn.Turn.TheVariants.{More, Found, Saturated, Spent, NoMemory}
-use Rattle.metis_core.specs.declared.waiting.Entry.{Entry}
+use Rattle.clause_ring.specs.declared.entry.Entry.{Entry}
 use Rattle.metis_core.specs.State.{State}
 use Rattle.metis_core.specs.Offer.{found, saturated, spent}
 use Rattle.metis_core.specs.Search.{position_of, Run, Search}

@@ -2,7 +2,7 @@
 use Rattle.std.specs.Prelude.{◌≡◌, ℕ, List, [], ◌∷◌, ◌++◌, length, Some, slice_get, Contains, not, ◌==◌, filter}
 use Rattle.fo_terms.specs.declared.clause.Clause.{Clause}
 use Rattle.fo_terms.specs.Weight.{clause_size}
-use Rattle.metis_core.specs.declared.waiting.Entry.{Entry}
+use Rattle.clause_ring.specs.declared.entry.Entry.{Entry}
 
 -- the waiting clauses but for the one of this number
 abbrev pub without : ℕ → List Entry → List Entry

@@ -17,4 +17,3 @@ pub use given::{Given, Positions};
 pub use laws::search_is_definite;
 pub use search::Search;
 pub use turn::Turn;
-pub use waiting::Entry;

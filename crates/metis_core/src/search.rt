@@ -37,10 +37,10 @@ impl Model for Search {
     ghost use Rattle.fo_infer.specs.contracts.refutation.Line as line;
     ghost use Rattle.metis_core.specs.declared.given.Given.{Given};
     ghost use Rattle.metis_core.specs.declared.turn.Turn.{Turn};
-    ghost use Rattle.metis_core.specs.declared.waiting.Entry.{Entry};
+    ghost use Rattle.clause_ring.specs.declared.entry.Entry.{Entry};
     ghost use Rattle.metis_core.specs.contracts.given.Given as given_type;
     ghost use Rattle.metis_core.specs.contracts.turn.Turn as turn_type;
-    ghost use Rattle.metis_core.specs.contracts.waiting.Entry as entry;
+    ghost use Rattle.clause_ring.specs.contracts.entry.Entry as entry;
     ghost use Rattle.metis_core.specs.Searched.{Searched};
 
     ghost Value = { Searched };
@@ -77,7 +77,7 @@ fn begin_with(alloc: Global, given: Given) -> Result<Search, NoMemory>
     ensures picks { IfOk result (λ s. s.picks ≡ 0) }
     ensures stands { IfOk result Stands }
 {
-    let mut stock = empty_stock(alloc, given.positions);
+    let mut stock = empty_stock(alloc, given.positions)?;
     let told = offer_inputs(&given, &mut stock);
     let reached = settle(&mut stock, told);
     if reached == Turn::NoMemory {

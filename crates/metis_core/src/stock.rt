@@ -1,12 +1,11 @@
-ghost use Rattle.std.specs.Prelude.{◌≡◌, ◌≢◌, true, false, ◌↔◌, ◌<◌, ◌≤◌, ◌++◌, ◌∷◌, [], IsTrue, IfOk, IfSome, OnOk, Some, slice_get, slice_index_or, length, MatchBool, MatchOption};
+ghost use Rattle.std.specs.Prelude.{◌≡◌, ◌≢◌, true, false, ◌↔◌, ◌<◌, ◌≤◌, ◌++◌, ◌∷◌, [], IsTrue, IfOk, IfSome, OnOk, Some, slice_get, slice_index_or, length};
 ghost use Rattle.cover_marks.specs.Marks.{clause_marks};
 ghost use Rattle.metis_core.specs.Stock.{clauses, IsReady};
 ghost use Rattle.fo_terms.specs.declared.clause.Clause.{Clause};
 ghost use Rattle.fo_terms.specs.Weight.{clause_size};
 ghost use Rattle.fo_infer.specs.Subsumption.{Subsumes};
-ghost use Rattle.metis_core.specs.State.{keeping, without, IsActive};
+ghost use Rattle.metis_core.specs.State.{keeping, IsActive};
 ghost use Rattle.metis_core.specs.Offer.{Barred, Offer, most_kept};
-ghost use Rattle.metis_core.specs.Pick.{IsOldest, IsLightest};
 ghost use Rattle.metis_core.specs.Held.{state_of, IsSound, Told, AddsLine, Activates};
 ghost use Rattle.metis_core.specs.Units.{IsAmong};
 
@@ -14,7 +13,8 @@ use crate::given::{Positions, is_plain};
 use crate::known::{Places, is_flat_known, is_known, note};
 use crate::stop::Stop;
 use crate::units::{as_unit, is_unit_subsumed, put_unit};
-use crate::waiting::{Entry, Waiting};
+use crate::waiting::Waiting;
+use clause_ring::Entry;
 use cover_marks::{ClauseMarks, marks_of_flat, may_subsume};
 use flat_subsume::Subsumer;
 use fo_cells::{FlatClause, print_of};
@@ -54,15 +54,15 @@ pub struct Stock {
     pub waiting: Waiting,
 }
 
-/// Holds nothing, for a search that puts equations into these positions. It takes no memory.
-pub fn empty_stock(alloc: Global, positions: Positions) -> Stock
-    ensures sound { IsSound result }
-    ensures lines { result.lines ≡ [] }
-    ensures active { result.active ≡ [] }
-    ensures waiting { result.waiting ≡ [] }
-    ensures positions { result.positions ≡ positions }
+/// Holds nothing, for a search that puts equations into these positions.
+pub fn empty_stock(alloc: Global, positions: Positions) -> Result<Stock, NoMemory>
+    ensures sound { IfOk result IsSound }
+    ensures lines { IfOk result (λ stock. stock.lines ≡ []) }
+    ensures active { IfOk result (λ stock. stock.active ≡ []) }
+    ensures waiting { IfOk result (λ stock. stock.waiting ≡ []) }
+    ensures positions { IfOk result (λ stock. stock.positions ≡ positions) }
 {
-    Stock {
+    Ok(Stock {
         alloc,
         lines: Rows::begin(alloc),
         places: HashMap::new(alloc),
@@ -73,8 +73,8 @@ pub fn empty_stock(alloc: Global, positions: Positions) -> Stock
         rest: Rows::begin(alloc),
         marks: Rows::begin(alloc),
         ready: Rows::begin(alloc),
-        waiting: Waiting::begin(alloc),
-    }
+        waiting: Waiting::begin(alloc)?,
+    })
 }
 
 /// What a prepared clause tells, where there is one.
@@ -240,15 +240,6 @@ pub fn offer_flat(stock: &mut Stock, flat: &FlatClause, origin: Origin) -> Resul
     Ok(())
 }
 
-fn take_next(waiting: &mut Waiting, oldest: bool) -> Option<Entry>
-    ensures { MatchOption result (waiting.old ≡ []) (λ e. MatchBool oldest (IsOldest waiting.old e) (IsLightest waiting.old e) × (waiting.new ≡ without e.number waiting.old)) }
-{
-    if oldest {
-        return waiting.pick_old();
-    }
-    waiting.pick_light()
-}
-
 /// Puts a kept clause among the active ones, with its marks: into the tree where it is one literal, or among the rest.
 fn put_active(stock: &mut Stock, number: u32) -> Result<(), NoMemory>
     requires sound { IsSound stock.old }
@@ -285,7 +276,7 @@ pub fn activate(stock: &mut Stock, oldest: bool) -> Result<u32, NoMemory>
     requires waits { stock.old.waiting ≢ [] }
     ensures { IfOk result (Activates oldest stock.old stock.new) }
 {
-    match take_next(&mut stock.waiting, oldest) {
+    match stock.waiting.pick(oldest) {
         Some(entry) => {
             put_active(stock, entry.number)?;
             Ok(entry.number)

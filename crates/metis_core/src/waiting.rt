@@ -1,116 +1,78 @@
-ghost use Rattle.std.specs.Prelude.{◌≡◌, ◌↔◌, ◌<◌, [], ◌∷◌, ◌++◌, IsTrue, MatchBool, MatchOption, OnOk, OnErr, All};
+ghost use Rattle.std.specs.Prelude.{◌≡◌, ◌↔◌, ◌<◌, ◌≤◌, [], ◌∷◌, ◌++◌, IsTrue, MatchBool, MatchOption, IfOk, OnOk, OnErr, All};
 ghost use Rattle.metis_core.specs.State.{without};
-ghost use Rattle.metis_core.specs.Pick.{IsOldest, IsLightest, Precedes, Holds};
+ghost use Rattle.metis_core.specs.Pick.{AreAscending, IsOldest, IsLightest};
 
+use clause_ring::{Entry, Ring, Steps};
 use std::alloc::Global;
-use std::marker::Model;
+use std::marker::{Brand, Model};
+use std::sync::ledger::{Blank, Ledger};
 use text_kit::NoMemory;
 
-/// A waiting clause, by its weight and its number.
-#[derive(Clone, Copy, Debug, Drop, PartialEq, Eq)]
-pub struct Entry {
-    /// its weight
-    pub weight: u32,
-    /// its number
-    pub number: u32,
-}
-
-/// The waiting clauses, which contracts see as the list of their entries.
+/// The waiting clauses, which contracts see as the list of their entries, whose numbers ascend.
 #[derive(Debug, Drop)]
 pub struct Waiting {
-    entries: Vec<Entry>,
+    ring: Ring,
 }
 
 impl Model for Waiting {
     ghost use Rattle.std.specs.Prelude.{List};
-    ghost use Rattle.metis_core.specs.declared.waiting.Entry.{Entry};
+    ghost use Rattle.clause_ring.specs.declared.entry.Entry.{Entry};
+    ghost use Rattle.metis_core.specs.Pick.{AreAscending};
 
     ghost Value = { List Entry };
 
-    ghost use Rattle.metis_core.specs.Pick.{AreAscending};
+    ghost view = { λ w. w.ring };
 
-    ghost view = { λ w. w.entries.items };
-
-    ghost invariant = { λ w. AreAscending w.entries.items };
+    ghost invariant = { λ w. AreAscending w.ring };
 }
 
 impl Waiting {
-    /// None. It takes no memory.
-    pub fn begin(alloc: Global) -> Waiting
-        ensures { result ≡ [] }
+    /// None.
+    pub fn begin(alloc: Global) -> Result<Waiting, NoMemory>
+        ensures { IfOk result (λ waiting. waiting ≡ []) }
     {
-        Waiting {
-            entries: Vec::new(alloc),
-        }
+        Ok(Waiting {
+            ring: Ring::begin(alloc)?,
+        })
     }
 
     /// Whether nothing waits.
     pub fn is_empty(&self) -> bool
         ensures { IsTrue result ↔ (self.now ≡ []) }
     {
-        self.entries.is_empty()
+        self.ring.is_empty()
     }
 
     /// One more, with a number that is later than all others.
     pub fn push(&mut self, entry: Entry) -> Result<(), NoMemory>
-        requires { All (λ e. e.number < entry.number) self.old }
+        requires light { entry.weight ≤ 512 }
+        requires newest { All (λ e. e.number < entry.number) self.old }
         ensures ok { OnOk result (self.new ≡ self.old ++ entry ∷ []) }
         ensures err { OnErr result (self.new ≡ self.old) }
     {
-        match self.entries.push(entry) {
-            Ok(()) => Ok(()),
-            Err(_) => Err(NoMemory),
-        }
+        self.ring.push(entry)
     }
 
-    /// Takes the clause of least weight, then number.
-    pub fn pick_light(&mut self) -> Option<Entry>
-        ensures { MatchOption result ((self.old ≡ []) × (self.new ≡ [])) (λ e. IsLightest self.old e × (self.new ≡ without e.number self.old)) }
+    /// Takes the clause of least number, or else that of least weight, then number. It takes no memory.
+    pub fn pick(&mut self, oldest: bool) -> Option<Entry>
+        ensures { MatchOption result ((self.old ≡ []) × (self.new ≡ [])) (λ e. MatchBool oldest (IsOldest self.old e) (IsLightest self.old e) × (self.new ≡ without e.number self.old)) }
     {
-        let at = lightest(self.entries.as_slice())?;
-        Some(self.entries.remove(at))
-    }
-
-    /// Takes the clause of least number.
-    pub fn pick_old(&mut self) -> Option<Entry>
-        ensures { MatchOption result ((self.old ≡ []) × (self.new ≡ [])) (λ e. IsOldest self.old e × (self.new ≡ without e.number self.old)) }
-    {
-        if self.entries.is_empty() {
-            return None;
-        }
-        Some(self.entries.remove(0))
+        take::<Brand>(&mut self.ring, oldest, Blank::new(1))
     }
 }
 
-fn precedes(e: Entry, d: Entry) -> bool
-    ensures { MatchBool result (Precedes e d) (Precedes d e) }
+/// Takes an entry out of a ring; nobody asks for the steps.
+fn take<L: Ledger>(ring: &mut Ring, oldest: bool, blank: Blank) -> Option<Entry>
+    requires name { blank.name ≡ L.name }
+    requires parts { blank.parts ≡ L.parts }
+    requires some { 0 < L.parts }
+    requires ascends { AreAscending ring.old }
+    ensures ascends { AreAscending ring.new }
+    ensures taken { MatchOption result ((ring.old ≡ []) × (ring.new ≡ [])) (λ e. MatchBool oldest (IsOldest ring.old e) (IsLightest ring.old e) × (ring.new ≡ without e.number ring.old)) }
 {
-    if e.weight < d.weight {
-        return true;
+    let mut steps = Steps::<L>::begin(blank);
+    if oldest {
+        return ring.pick_old(&mut steps);
     }
-    if d.weight < e.weight {
-        return false;
-    }
-    if e.number <= d.number {
-        return true;
-    }
-    false
-}
-
-fn lightest(entries: &[Entry]) -> Option<usize>
-    ensures { MatchOption result (entries.now ≡ []) (λ at. Holds entries.now at (IsLightest entries.now)) }
-{
-    if entries.is_empty() {
-        return None;
-    }
-    let mut at = 0;
-    let mut best = entries[0];
-    for i in 0..entries.len() {
-        let e = entries[i];
-        if !precedes(best, e) {
-            at = i;
-            best = e;
-        }
-    }
-    Some(at)
+    ring.pick_light(&mut steps)
 }

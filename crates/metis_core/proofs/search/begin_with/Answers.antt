@@ -12,7 +12,7 @@ use Rattle.metis_core.proofs.search.begin_with.Goals.{After-settle-reached}
 stands : (c : After-settle-reached) → StandsAt (seen c.args.given 0 c.settle-reached.new.stock c.settle-reached.result) c.settle-reached.result
 stands c =
     let given = c.args.given in
-    let bare : state_of c.empty_stock-stock.result ≡ nothing = λ i. record { kept = clauses (c.empty_stock-stock.ensures.lines i); active = c.empty_stock-stock.ensures.active i; waiting = c.empty_stock-stock.ensures.waiting i } in
+    let bare : state_of c.in_ok-stock.stock ≡ nothing = λ i. record { kept = clauses (c.in_ok-stock.ensures.lines i); active = c.in_ok-stock.ensures.active i; waiting = c.in_ok-stock.ensures.waiting i } in
     settled given 0 (Through Offer nothing (normal_forms given.inputs)) (λ s h. inputs h) (λ e s h. at_inputs h)
     c.offer_inputs-told.new.stock c.settle-reached.new.stock c.offer_inputs-told.result c.settle-reached.result
     (subst (λ s. Told c.offer_inputs-told.result (state_of c.offer_inputs-told.new.stock) (Through Offer s (normal_forms given.inputs))) bare c.offer_inputs-told.ensures.offered)

@@ -1,6 +1,6 @@
 use Rattle.std.proofs.Common.{refl, subst, sym, ◌<◌, ◌∙◌, length, All, not, ◌==◌}
 use Rattle.std.proofs.lemmas.List.Elements.{All-contains, All-filter}
-use Rattle.metis_core.specs.declared.waiting.Entry.{Entry}
+use Rattle.clause_ring.specs.declared.entry.Entry.{Entry}
 use Rattle.metis_core.proofs.Telling.{picked_held}
 use Rattle.metis_core.proofs.stock.activate.Goals as goal
 

@@ -4,7 +4,7 @@ use Rattle.metis_core.specs.Stock.{IsIndex, AreMarks, AreReady, IsReady, Notes}
 use Rattle.cover_marks.specs.Marks.{clause_marks}
 use Rattle.metis_core.specs.Print.{clause_print}
 use Rattle.fo_infer.specs.declared.refutation.Line.{Line}
-use Rattle.metis_core.specs.declared.waiting.Entry.{Entry}
+use Rattle.clause_ring.specs.declared.entry.Entry.{Entry}
 use Rattle.metis_core.proofs.Marks.{beside_grow}
 use Rattle.metis_core.proofs.Stocks.{index_grows, below_grows, entries_grow}
 use Rattle.metis_core.specs.Units.{AreParted}
