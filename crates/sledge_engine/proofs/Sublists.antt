@@ -1,10 +1,13 @@
--- The numbers of named facts are among those of the visible ones.
-use Rattle.std.proofs.Common.{ℕ, suc, zero, ◌≡◌, ◌∙◌, ◌+◌, Bool, true, false, List, [], ◌∷◌, refl, sym, if◌then◌else◌, Some, slice_get}
+-- The numbers of named facts are among those of the visible ones, and a search can be made with them.
+use Rattle.std.proofs.Common.{ℕ, suc, zero, ◌≡◌, ◌∙◌, ◌+◌, Bool, true, false, List, [], ◌∷◌, refl, sym, if◌then◌else◌, IsTrue, Some, slice_get}
+use Rattle.hol_terms.specs.declared.env.Env.{Env}
 use Rattle.theory_reader.specs.declared.statement.Fact.{Fact}
 use Rattle.theory_reader.specs.declared.theory.Theory.{Theory}
-use Rattle.theory_reader.specs.Seen.{seen}
+use Rattle.theory_reader.specs.Seen.{IsEnvOf, seen}
 use Rattle.fact_minimise.specs.Sublists.{IsSublist, none, with_first, without_first}
-use Rattle.slot_work.specs.Visible.{fact_fits, places_from, visible}
+use Rattle.goal_search.specs.Fitting.{CanSearch}
+use Rattle.slot_work.specs.Visible.{fact_fits, goal_fits, places_from, visible}
+use Rattle.slot_work.proofs.Turning.{sublist_can}
 use Rattle.sledge_engine.specs.Choice.{AllVisible, chosen, has_name}
 use Rattle.sledge_engine.proofs.Named.{named_fits}
 
@@ -23,3 +26,7 @@ sub_places q p i (x ∷ xs) implied = at (q x) (p x) refl refl (sub_places q p (
 
 pub chosen_visible : (t : Theory) (goal : ℕ) (names : List (List ℕ)) → AllVisible t goal names → IsSublist (chosen names t goal) (visible t goal)
 chosen_visible t goal names all = sub_places (has_name names) (fact_fits t) 0 (seen t goal) (λ k f is named. named_fits t goal names all k f is named)
+
+-- the goal and the named facts, each of them visible, can be searched with
+pub chosen_can : (t : Theory) (goal : ℕ) (e : Env) (names : List (List ℕ)) → IsEnvOf t goal e → IsTrue (goal_fits t goal) → AllVisible t goal names → CanSearch e (chosen names t goal)
+chosen_can t goal e names is fits all = sublist_can t goal e (chosen names t goal) is fits (chosen_visible t goal names all)

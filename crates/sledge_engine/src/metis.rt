@@ -13,14 +13,14 @@ use crate::choice::{choose, put_names_at};
 use crate::posing::{Posed, open_goal};
 use crate::seen::seen_facts;
 use crate::texts::put_refusal;
-use crate::visible::{first_hidden, visible_facts};
+use crate::visible::first_hidden;
 use crate::words::MetisLine;
 use hol_kernel::Proven;
 use hol_terms::Env;
 use kernel_rules::Step;
 use proof_text::print_proof;
 use race_outside::Shelf;
-use slot_work::{Job, Replayed, replay};
+use slot_work::{Replayed, replay_facts};
 use std::alloc::Global;
 use text_kit::{Bytes, NoMemory, Rows};
 use theory_reader::{Fact, Theory};
@@ -112,9 +112,7 @@ fn replay_named(alloc: Global, asked: &Asked, numbers: &Rows<u32>) -> Result<Rep
     requires numbers { numbers.now ≡ chosen_of (said asked.now) asked.now.theory.now asked.now.goal }
     ensures { IfOk result (IsReplayed asked.now) }
 {
-    let visible = visible_facts(alloc, asked.env)?;
-    let job = Job::begin(alloc, asked.theory, asked.goal, visible, asked.budget)?;
-    replay(alloc, &job, numbers)
+    replay_facts(alloc, asked.env, numbers, asked.budget)
 }
 
 /// Answers where each named fact is visible.

@@ -20,6 +20,6 @@ pub use hol_kernel::Proven;
 pub use job::Job;
 pub use laws::key_tells;
 pub use replayed::Replayed;
-pub use replaying::replay;
+pub use replaying::{replay, replay_facts};
 pub use seeing::{goal_fits, visible};
 pub use task::SlotTask;

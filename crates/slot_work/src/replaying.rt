@@ -35,8 +35,12 @@ fn replayed(
     }
 }
 
-/// The search with facts that fit, and what comes of it.
-fn replay_with(
+/// The search for the goal of an environment with these facts, where they and the goal fit; and where it finds a refutation, the minimal ones of
+/// them and the steps of a proof from these.
+///
+/// It makes one search for the facts, one for each turn of the minimiser, and one for the proof. Which minimal facts are given, where there
+/// are several such lists, isn't said.
+pub fn replay_facts(
     alloc: Global,
     env: &Env,
     facts: &Rows<u32>,
@@ -54,14 +58,10 @@ fn replay_with(
     }
 }
 
-/// The search for the job's goal with these facts, which are visible and ascend; and where it finds a refutation, the minimal ones of them
-/// and the steps of a proof from these.
-///
-/// It makes one search for the facts, one for each turn of the minimiser, and one for the proof. Which minimal facts are given, where there
-/// are several such lists, isn't said.
+/// The replay of these facts for the job's goal, with its budget. The facts are visible and ascend.
 pub fn replay(alloc: Global, job: &Job, facts: &Rows<u32>) -> Result<Replayed, NoMemory>
     requires { IsSublist facts.now job.now.visible }
     ensures { IfOk result (λ r. From job.now.env facts.now job.now.budget (outcome_of r)) }
 {
-    replay_with(alloc, &job.env, facts, job.budget)
+    replay_facts(alloc, &job.env, facts, job.budget)
 }

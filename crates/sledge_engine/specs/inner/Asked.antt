@@ -1,6 +1,5 @@
 -- What the code of `metis` holds on to, and what that stands for.
 use Rattle.std.specs.Prelude.{ℕ, ◌≡◌, ◌<◌, IsTrue, List, length, map}
-use Rattle.hol_terms.specs.declared.env.Env.{Env}
 use Rattle.theory_reader.specs.Seen.{IsEnvOf, seen}
 use Rattle.slot_work.specs.declared.replayed.Replayed.{Replayed}
 use Rattle.slot_work.specs.Replays.{From, outcome_of}
@@ -20,7 +19,5 @@ abbrev pub said : Asked → List (List ℕ)
 said a = map (λ w. w.now) a.words.now
 
 -- a replay of the facts of these names
-pub record IsReplayed (a : Asked) (r : Replayed) : Type 0 where
-  pub env : Env
-  pub env_is : IsEnvOf a.theory.now a.goal env
-  pub from : From env (chosen (said a) a.theory.now a.goal) a.budget (outcome_of r)
+abbrev pub IsReplayed : Asked → Replayed → Type 0
+IsReplayed a r = From a.env.now (chosen (said a) a.theory.now a.goal) a.budget (outcome_of r)

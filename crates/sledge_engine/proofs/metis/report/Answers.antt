@@ -16,18 +16,18 @@ returns-in-Proved c =
     reply_with (GoalReply t a.goal (said a) a.budget a.shows) c.put_proved.result 0
     (metis_text (names_at (fact_names (map (λ f. f.now) a.facts.now)) p.names) ++ shown a.shows t a.goal p.steps) c.put_proved.new.text
     (subst (λ fs. GoalReply t a.goal (said a) a.budget a.shows 0 (metis_text (names_at (fact_names fs) p.names) ++ shown a.shows t a.goal p.steps)) (sym c.requires.asked.facts)
-    (proved replayed.env p c.requires.visible replayed.env_is replayed.from)) c.put_proved.ensures
+    (proved a.env.now p c.requires.visible c.requires.asked.env replayed)) c.put_proved.ensures
 
 pub returns-in-Saturated : goal.returns-in-Saturated
 returns-in-Saturated c =
     let a = c.args.asked.now in
     let replayed = subst (IsReplayed a) c.in-Saturated.is c.requires.replayed in
     reply_with (GoalReply a.theory.now a.goal (said a) a.budget a.shows) c.put_unproved.result 1 saturated_text c.put_unproved.new.text
-    (saturated replayed.env c.requires.visible replayed.env_is replayed.from) c.put_unproved.ensures
+    (saturated a.env.now c.requires.visible c.requires.asked.env replayed) c.put_unproved.ensures
 
 pub returns-in-Spent : goal.returns-in-Spent
 returns-in-Spent c =
     let a = c.args.asked.now in
     let replayed = subst (IsReplayed a) c.in-Spent.is c.requires.replayed in
     reply_with (GoalReply a.theory.now a.goal (said a) a.budget a.shows) c.put_unproved-in-Spent.result 1 spent_text c.put_unproved-in-Spent.new.text
-    (spent replayed.env c.requires.visible replayed.env_is replayed.from) c.put_unproved-in-Spent.ensures
+    (spent a.env.now c.requires.visible c.requires.asked.env replayed) c.put_unproved-in-Spent.ensures
