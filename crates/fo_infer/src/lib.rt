@@ -36,7 +36,7 @@ pub use paramodulating::push_changed;
 pub use paths::replace_in_atom;
 pub use reading::sides;
 pub use refutation::{Line, Origin, Refutation};
-pub use renaming::{above_literals, renamed};
+pub use renaming::{above_literals, raised, renamed};
 pub use single::{alone, find_alone};
 pub use subsuming::subsumes;
 pub use writing::put_side;

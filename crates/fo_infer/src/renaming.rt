@@ -1,6 +1,6 @@
 ghost use Rattle.std.specs.Prelude.{◌≡◌, ◌+◌, map, max, IfOk};
 ghost use Rattle.std.specs.List.{concat};
-ghost use Rattle.fo_terms.specs.Substitution.{var, put, put_atom};
+ghost use Rattle.fo_terms.specs.Substitution.{var, put, put_atom, put_literals};
 ghost use Rattle.fo_terms.specs.Normal.{variables_of, literal_variables, clause_variables};
 ghost use Rattle.fo_infer.specs.Inferences.{above_all, renamed_apart};
 
@@ -98,6 +98,20 @@ fn shift_atom(alloc: Global, by: u64, a: &Atom) -> Result<Atom, NoMemory>
     }
 }
 
+/// The literals with each variable raised by that number. Where one passes `u64::MAX`, the answer is `NoMemory`.
+pub fn raised(alloc: Global, by: u64, literals: &[Literal]) -> Result<Rows<Literal>, NoMemory>
+    ensures { IfOk result (λ ls. ls ≡ put_literals (λ x. var (x + by)) literals.now) }
+{
+    let mut out = Rows::begin(alloc);
+    for l in literals {
+        out.push(Literal {
+            positive: l.positive,
+            atom: shift_atom(alloc, by, &l.atom)?,
+        })?;
+    }
+    Ok(out)
+}
+
 /// The right clause's literals with their variables renamed apart from the left one's.
 ///
 /// Each variable grows by the least number above those of the left clause. Where that passes `u64::MAX`, the answer
@@ -106,12 +120,6 @@ pub fn renamed(alloc: Global, p: &Clause, q: &Clause) -> Result<Rows<Literal>, N
     ensures { IfOk result (λ ls. ls ≡ renamed_apart p.now q.now) }
 {
     let by = above_literals(p.literals.as_slice())?;
-    let mut out = Rows::begin(alloc);
-    for l in q.literals.as_slice() {
-        out.push(Literal {
-            positive: l.positive,
-            atom: shift_atom(alloc, by, &l.atom)?,
-        })?;
-    }
-    Ok(out)
+    let apart = raised(alloc, by, q.literals.as_slice())?;
+    Ok(apart)
 }

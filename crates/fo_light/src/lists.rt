@@ -1,6 +1,6 @@
 ghost use Rattle.std.specs.Prelude.{◌≡◌, ◌++◌, ◌∷◌, [], All, List, map, IfOk, OnOk};
 ghost use Rattle.fo_infer.specs.declared.made.Made.{Made};
-ghost use Rattle.fo_infer.specs.Inferences.{Alone, BetweenAt};
+ghost use Rattle.fo_infer.specs.Inferences.{Alone, BetweenAt, renamed_apart};
 ghost use Rattle.fo_infer.specs.inner.Places.{position_of};
 ghost use Rattle.fo_infer.specs.inner.Findings.{IsPlaced, made_of, all_made};
 ghost use Rattle.fo_light.specs.Light.{as_made, light};
@@ -8,7 +8,7 @@ ghost use Rattle.fo_light.specs.Light.{as_made, light};
 use crate::FlatMade;
 use crate::concluding::conclude_light;
 use fo_cells::{Cells, FlatClause};
-use fo_infer::{Finding, find_alone, find_between, may_infer, renamed};
+use fo_infer::{Finding, find_alone, find_between, may_infer};
 use fo_terms::{Clause, Literal};
 use std::alloc::Global;
 use text_kit::{NoMemory, Rows};
@@ -55,21 +55,23 @@ fn write_light<'a>(
     Ok(out)
 }
 
-/// The inferences of two clauses whose clauses weigh at most 512, in order, their clauses as cells.
+/// The inferences of two clauses whose clauses weigh at most 512, in order, their clauses as cells. `apart` are the right clause's literals
+/// renamed apart.
 pub fn between_light(
     alloc: Global,
     plain: bool,
     p: &Clause,
     q: &Clause,
+    apart: &Rows<Literal>,
 ) -> Result<Rows<FlatMade>, NoMemory>
+    requires { apart.now ≡ renamed_apart p.now q.now }
     ensures { IfOk result (λ made. (all : List Made) × BetweenAt (position_of plain) p.now q.now all × (map as_made made ≡ light all)) }
 {
     if !may_infer(p, q) {
         return Ok(Rows::begin(alloc));
     }
-    let apart = renamed(alloc, p, q)?;
-    let found = find_between(alloc, plain, p, q, &apart)?;
-    let made = write_light(alloc, p, &apart, found)?;
+    let found = find_between(alloc, plain, p, q, apart)?;
+    let made = write_light(alloc, p, apart, found)?;
     Ok(made)
 }
 

@@ -5,6 +5,7 @@ pub mod Inputs
 pub mod Marks
 pub mod Parted
 pub mod Picks
+pub mod Raisings
 pub mod Reach
 pub mod Saturation
 pub mod Searches

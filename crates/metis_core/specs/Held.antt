@@ -18,6 +18,7 @@ use Rattle.metis_core.specs.Offer.{Passed, on, over, found, spent, most_kept}
 use Rattle.metis_core.specs.Search.{position_of}
 use Rattle.metis_core.specs.Stock.{IsIndex, AreMarks, AreReady, clauses}
 use Rattle.metis_core.specs.Units.{AreParted}
+use Rattle.metis_core.specs.Raised.{AreRaised}
 use Rattle.metis_core.specs.Reach.{AreReach}
 
 -- the state that the stock holds
@@ -33,6 +34,7 @@ pub record IsSound (stock : Stock) : Type 0 where
   pub marks : AreMarks stock.lines stock.rest stock.marks
   pub ready : AreReady stock.lines stock.rest stock.ready
   pub reach : AreReach stock.positions stock.lines stock.active stock.reach
+  pub raised : AreRaised stock.lines stock.raised.items
   pub few : length stock.lines ≤ most_kept
 
 -- besides, each line follows by its origin, and equations are put where they are to be

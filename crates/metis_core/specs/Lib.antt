@@ -7,6 +7,7 @@ pub mod Ends
 pub mod Print
 pub mod Stock
 pub mod Units
+pub mod Raised
 pub mod Reach
 pub mod Held
 pub mod Searched

@@ -1,6 +1,6 @@
 ghost use Rattle.std.specs.Prelude.{◌≡◌, ◌<◌, ◌≤◌, ◌∷◌, ◌≢◌, [], List, map, IfOk, OnOk, Some, slice_get, length, take};
 ghost use Rattle.fo_infer.specs.declared.made.Made.{Made};
-ghost use Rattle.fo_infer.specs.Inferences.{BetweenAt};
+ghost use Rattle.fo_infer.specs.Inferences.{BetweenAt, renamed_apart};
 ghost use Rattle.fo_light.specs.Light.{as_made, light};
 ghost use Rattle.metis_core.specs.Offer.{Offer, Through};
 ghost use Rattle.metis_core.specs.Search.{position_of, Infers, Inferred, Pick, normal_forms, pairs};
@@ -9,11 +9,12 @@ ghost use Rattle.metis_core.specs.Held.{state_of, IsRunning, IsSound, Told, Ends
 
 use crate::given::{Given, Positions};
 use crate::premises::Premises;
-use crate::stock::{Stock, activate, offer, offer_flat};
+use crate::raised::copy_of;
+use crate::stock::{Stock, activate, offer, offer_flat, raise_right};
 use crate::stop::Stop;
-use fo_infer::{Origin, Rule};
+use fo_infer::{Origin, Rule, renamed};
 use fo_light::{FlatMade, alone_light, between_light};
-use fo_terms::Clause;
+use fo_terms::{Clause, Literal};
 use pair_marks::may_infer;
 use std::alloc::Global;
 use text_kit::{NoMemory, Rows};
@@ -23,12 +24,14 @@ fn between_at(
     positions: Positions,
     p: &Clause,
     q: &Clause,
+    apart: &Rows<Literal>,
 ) -> Result<Rows<FlatMade>, NoMemory>
+    requires { apart.now ≡ renamed_apart p.now q.now }
     ensures { IfOk result (λ made. (all : List Made) × BetweenAt (position_of positions) p.now q.now all × (map as_made made ≡ light all)) }
 {
     match positions {
-        Positions::Tagged => Ok(between_light(alloc, false, p, q)?),
-        Positions::Plain => Ok(between_light(alloc, true, p, q)?),
+        Positions::Tagged => Ok(between_light(alloc, false, p, q, apart)?),
+        Positions::Plain => Ok(between_light(alloc, true, p, q, apart)?),
     }
 }
 
@@ -37,7 +40,8 @@ fn inferences(
     stock: &Stock,
     premises: Premises,
 ) -> Result<Rows<FlatMade>, NoMemory>
-    requires { ArePremises (length stock.now.lines) premises }
+    requires sound { IsSound stock.now }
+    requires within { ArePremises (length stock.now.lines) premises }
     ensures { IfOk result (λ made. (all : List Made) × Infers positions (state_of stock.now) premises all × (map as_made made ≡ light all)) }
 {
     match premises {
@@ -45,7 +49,14 @@ fn inferences(
         Premises::Two(n, m) => {
             let left = &stock.lines.at(n as usize).clause;
             let right = &stock.lines.at(m as usize).clause;
-            Ok(between_at(stock.alloc, positions, left, right)?)
+            let by = stock.raised[n as usize].above;
+            match copy_of(&stock.raised[m as usize], by) {
+                Some(apart) => Ok(between_at(stock.alloc, positions, left, right, apart)?),
+                None => {
+                    let apart = renamed(stock.alloc, left, right)?;
+                    Ok(between_at(stock.alloc, positions, left, right, &apart)?)
+                }
+            }
         }
     }
 }
@@ -105,6 +116,7 @@ fn infer_pair(given: &Given, stock: &mut Stock, left: Active, right: Active) -> 
     if !may_infer(stock.reach.at(left.place), stock.reach.at(right.place)) {
         return Ok(());
     }
+    raise_right(stock, left.number, right.number)?;
     infer(given, stock, Premises::Two(left.number, right.number))
 }
 

@@ -6,6 +6,7 @@ mod inferring;
 mod known;
 mod laws;
 mod premises;
+mod raised;
 mod search;
 mod stock;
 mod stop;

@@ -11,6 +11,7 @@ ghost use Rattle.metis_core.specs.Units.{IsAmong};
 
 use crate::given::{Positions, is_plain};
 use crate::known::{Places, is_flat_known, is_known, note};
+use crate::raised::{Raised, push_raised, raise, uncopied};
 use crate::stop::Stop;
 use crate::units::{as_unit, is_unit_subsumed, put_unit};
 use crate::waiting::Waiting;
@@ -37,6 +38,8 @@ pub const HEAVIEST: u64 = 512;
 pub struct Stock {
     pub alloc: Global,
     pub lines: Rows<Line>,
+    /// the lines' clauses with their variables raised, by the lines' numbers
+    pub raised: Vec<Raised>,
     pub places: Places,
     pub active: Rows<u32>,
     /// what the active clauses need and offer in inferences, in their order
@@ -65,6 +68,7 @@ pub fn empty_stock(alloc: Global, positions: Positions) -> Result<Stock, NoMemor
     Ok(Stock {
         alloc,
         lines: Rows::begin(alloc),
+        raised: Vec::new(alloc),
         places: HashMap::new(alloc),
         active: Rows::begin(alloc),
         reach: Rows::begin(alloc),
@@ -161,9 +165,11 @@ fn keep(stock: &mut Stock, clause: Clause, origin: Origin) -> Result<(), NoMemor
 {
     let number = stock.lines.len() as u32;
     let weight = clause.weight() as u32;
+    let raised = uncopied(stock.alloc, &clause)?;
     note(&mut stock.places, stock.alloc, print_of(&clause), number)?;
     stock.waiting.push(Entry { weight, number })?;
     stock.lines.push(Line { clause, origin })?;
+    push_raised(&mut stock.raised, raised)?;
     Ok(())
 }
 
@@ -268,6 +274,23 @@ fn put_active(stock: &mut Stock, number: u32) -> Result<(), NoMemory>
             Ok(())
         }
     }
+}
+
+/// Sees to it that the right premise's literals stand with their variables raised above the left one's, where these are few.
+pub fn raise_right(stock: &mut Stock, left: u32, right: u32) -> Result<(), NoMemory>
+    requires sound { IsSound stock.old }
+    requires left { left < length stock.old.lines }
+    requires right { right < length stock.old.lines }
+    ensures sound { OnOk result (IsSound stock.new) }
+    ensures lines { OnOk result (stock.new.lines ≡ stock.old.lines) }
+    ensures active { OnOk result (stock.new.active ≡ stock.old.active) }
+    ensures waiting { OnOk result (stock.new.waiting ≡ stock.old.waiting) }
+    ensures positions { OnOk result (stock.new.positions ≡ stock.old.positions) }
+{
+    let by = stock.raised[left as usize].above;
+    let clause = &stock.lines.at(right as usize).clause;
+    raise(&mut stock.raised[right as usize], stock.alloc, by, clause)?;
+    Ok(())
 }
 
 /// Makes a waiting clause active, the oldest or else the lightest one, and answers its number.

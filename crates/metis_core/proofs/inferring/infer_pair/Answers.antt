@@ -1,4 +1,4 @@
-use Rattle.std.proofs.Common.{length, refl}
+use Rattle.std.proofs.Common.{◌≡◌, ◌<◌, length, refl, ap, sym, subst}
 use Rattle.metis_core.proofs.Reach.{none_inferred}
 use Rattle.metis_core.proofs.Telling.{number_below}
 use Rattle.metis_core.proofs.inferring.infer_pair.Goals as goal
@@ -10,7 +10,8 @@ returns-then-not-may_infer-clause-inferred c =
 
 pub infer-requires-clause-within : goal.infer-requires-clause-within
 infer-requires-clause-within c =
-    let stock = c.args.stock.now in (
-      number_below stock.active c.args.left.place c.args.left.number (length stock.lines) c.requires.running.sound.active c.requires.left,
-      number_below stock.active c.args.right.place c.args.right.number (length stock.lines) c.requires.running.sound.active c.requires.right,
+    let stock = c.args.stock.now in
+    let same : length stock.lines ≡ length c.raise_right.new.stock.lines = ap length (sym c.in_ok-raise_right.ensures.lines) in (
+      subst (λ n. c.args.left.number < n) same (number_below stock.active c.args.left.place c.args.left.number (length stock.lines) c.requires.running.sound.active c.requires.left),
+      subst (λ n. c.args.right.number < n) same (number_below stock.active c.args.right.place c.args.right.number (length stock.lines) c.requires.running.sound.active c.requires.right),
     )

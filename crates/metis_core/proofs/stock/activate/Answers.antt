@@ -17,6 +17,7 @@ put_active-requires-clause-sound c =
       marks = c.requires.sound.marks;
       ready = c.requires.sound.ready;
       reach = c.requires.sound.reach;
+      raised = c.requires.sound.raised;
       few = c.requires.sound.few;
     }
 

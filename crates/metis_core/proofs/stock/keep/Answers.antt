@@ -1,4 +1,4 @@
-use Rattle.std.proofs.Common.{◌≡◌, ◌<◌, subst, sym, ap, ◌∙◌, arith, ◌+◌, length, All}
+use Rattle.std.proofs.Common.{◌≡◌, ◌∷◌, [], ◌++◌, ◌<◌, subst, sym, ap, ◌∙◌, arith, ◌+◌, length, All}
 use Rattle.std.proofs.lemmas.List.{length_push}
 use Rattle.metis_core.specs.Stock.{IsIndex, AreMarks, AreReady, IsReady, Notes}
 use Rattle.cover_marks.specs.Marks.{clause_marks}
@@ -9,6 +9,8 @@ use Rattle.metis_core.proofs.Marks.{beside_grow}
 use Rattle.metis_core.proofs.Stocks.{index_grows, below_grows, entries_grow}
 use Rattle.metis_core.specs.Units.{AreParted}
 use Rattle.metis_core.specs.Reach.{AreReach}
+use Rattle.metis_core.proofs.Raisings.{raised_grows}
+use Rattle.metis_core.specs.Raised.{AreRaised}
 use Rattle.metis_core.proofs.Reach.{reach_grows}
 use Rattle.metis_core.proofs.Parted.{rest_below, parted_grows}
 use Rattle.metis_core.proofs.stock.keep.Goals as goal
@@ -32,5 +34,7 @@ returns-clause-sound c =
       ready = subst (λ ls. AreReady ls old.rest old.ready) (sym c.in_ok-push-2.ensures.ok) (beside_grow IsReady old.lines line old.rest old.ready below c.requires.sound.ready);
       reach = subst (λ ls. AreReach old.positions ls old.active old.reach) (sym c.in_ok-push-2.ensures.ok)
           (reach_grows old.positions old.lines line old.active old.reach c.requires.sound.active c.requires.sound.reach);
+      raised = subst (λ ls. AreRaised ls c.push_raised.new.all.items) (sym c.in_ok-push-2.ensures.ok)
+          (subst (AreRaised (old.lines ++ line ∷ [])) (sym c.in_ok-push_raised.ensures) (raised_grows old.lines line old.raised.items c.in_ok-raised.raised c.in_ok-raised.ensures c.requires.sound.raised));
       few = omega (arith, c.requires.room);
     }

@@ -39,6 +39,7 @@ returns-in_ok-put_unit-in-Some-clause-sound c =
       ready = c.requires.sound.ready;
       reach = reach_pushed old.positions old.lines old.active c.push.new.self old.reach c.push-2.new.self n c.in_ok-reach.reach c.at.result.now.clause c.is_plain.result
           c.in_ok-push.ensures.ok c.in_ok-push-2.ensures.ok (clause_at old.lines n c.at.result.now c.at.ensures) c.is_plain.ensures c.in_ok-reach.ensures c.requires.sound.reach;
+      raised = c.requires.sound.raised;
       few = c.requires.sound.few;
     }
 
@@ -62,5 +63,6 @@ returns-in_ok-push-in-None-3-clause-sound c =
           (prepared c.in_ok-ready-in-None.ready c.at.result.now.clause (65535 < clause_size c.at.result.now.clause) c.in_ok-ready-in-None.ensures) c.requires.sound.ready));
       reach = reach_pushed old.positions old.lines old.active c.push.new.self old.reach c.push-2.new.self n c.in_ok-reach.reach c.at.result.now.clause c.is_plain.result
           c.in_ok-push.ensures.ok c.in_ok-push-2.ensures.ok (clause_at old.lines n c.at.result.now c.at.ensures) c.is_plain.ensures c.in_ok-reach.ensures c.requires.sound.reach;
+      raised = c.requires.sound.raised;
       few = c.requires.sound.few;
     }
