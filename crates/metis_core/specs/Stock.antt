@@ -1,5 +1,5 @@
 -- How the code holds the state of a search.
-use Rattle.std.specs.Prelude.{◌≡◌, ℕ, nat_eq, List, [], ◌∷◌, ◌++◌, map, unwrap_or, Option, Some, IfSome, slice_get, slice_index_or, length, ◌<◌, Contains, if◌then◌else◌, ◌==◌}
+use Rattle.std.specs.Prelude.{◌≡◌, ℕ, nat_eq, List, [], ◌∷◌, ◌++◌, map, unwrap_or, Option, Some, IfSome, slice_get, slice_index_or, length, Contains, if◌then◌else◌, ◌==◌}
 use Rattle.std.specs.declared.hash.FoldHasher.{FoldHasher}
 use Rattle.std.specs.declared.hash.BuildHasherDefault.{BuildHasherDefault}
 use Rattle.std.specs.HashMap.{get, HashMap}

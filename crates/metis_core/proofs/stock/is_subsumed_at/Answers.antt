@@ -1,4 +1,4 @@
-use Rattle.std.proofs.Common.{◌≡◌, ◌↔◌, false, true, Some, IsTrue, subst}
+use Rattle.std.proofs.Common.{◌≡◌, ◌↔◌, false, true, IsTrue, subst}
 use Rattle.std.specs.Prelude.{IfSome}
 use Rattle.fo_infer.specs.Subsumption.{Subsumes}
 use Rattle.metis_core.proofs.stock.is_subsumed_at.Goals as goal
