@@ -1,4 +1,4 @@
-use Rattle.std.proofs.Common.{◌+◌, ◌*◌, ◌≤◌, drop}
+use Rattle.std.proofs.Common.{◌+◌, ◌*◌, ◌≤◌}
 use Rattle.fo_cells.specs.Binds.{binds_of}
 use Rattle.flat_subsume.proofs.Sending.{NoneBefore}
 use Rattle.flat_subsume.proofs.covering.+covering.Given as goal

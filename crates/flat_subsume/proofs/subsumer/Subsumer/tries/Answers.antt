@@ -1,4 +1,4 @@
-use Rattle.std.proofs.Common.{◌≡◌, ◌≤◌, IsTrue, length, drop, sym, ap, subst, ◌∙◌, arith}
+use Rattle.std.proofs.Common.{◌≤◌, length, ap, subst, arith}
 use Rattle.fo_terms.specs.Substitution.{var}
 use Rattle.fo_cells.specs.declared.binds.Binds.{Nothing}
 use Rattle.fo_cells.specs.Binds.{binds_of}
