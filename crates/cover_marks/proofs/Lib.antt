@@ -1,3 +1,4 @@
 pub mod Insides
 pub mod Covering
 pub mod Flat
+pub mod Unions

@@ -16,6 +16,8 @@ use text_kit::{NoMemory, Rows};
 /// Beside its own size it takes 8 bytes for each literal, and up to as much again.
 #[derive(Drop)]
 pub struct ClauseMarks {
+    /// the marks of all literals together, which most clauses are told apart by
+    all: u64,
     words: Rows<u64>,
 }
 
@@ -25,6 +27,10 @@ impl Model for ClauseMarks {
     ghost Value = { List ℕ };
 
     ghost view = { λ it. it.words };
+
+    ghost use Rattle.cover_marks.specs.inner.Union.{IsUnion};
+
+    ghost invariant = { λ it. IsUnion it.words it.all };
 }
 
 /// The marks of a clause's literals.
@@ -37,22 +43,28 @@ impl Model for ClauseMarks {
 pub fn marks_of(alloc: Global, c: &Clause) -> Result<ClauseMarks, NoMemory>
     ensures { IfOk result (λ m. m ≡ clause_marks c.now) }
 {
+    let mut all = 0;
     let mut words = Rows::begin(alloc);
     for l in c.literals.as_slice() {
-        words.push(of_literal(l))?;
+        let word = of_literal(l);
+        words.push(word)?;
+        all |= word;
     }
-    Ok(ClauseMarks { words })
+    Ok(ClauseMarks { all, words })
 }
 
 /// The marks of the literals of a clause as cells, which are those of the same clause as trees. It walks over each cell once.
 pub fn marks_of_flat(alloc: Global, c: &FlatClause) -> Result<ClauseMarks, NoMemory>
     ensures { IfOk result (λ m. m ≡ clause_marks (record { literals = c.now })) }
 {
+    let mut all = 0;
     let mut words = Rows::begin(alloc);
     for i in 0..c.len() {
-        words.push(of_flat_literal(c, i))?;
+        let word = of_flat_literal(c, i);
+        words.push(word)?;
+        all |= word;
     }
-    Ok(ClauseMarks { words })
+    Ok(ClauseMarks { all, words })
 }
 
 fn is_within_some(word: u64, words: &[u64]) -> bool
@@ -86,5 +98,8 @@ pub fn may_subsume(p: &ClauseMarks, q: &ClauseMarks) -> bool
     ensures exact { IsTrue result ↔ MayCover p.now q.now }
     ensures law { (c d : Clause) → p.now ≡ clause_marks c → q.now ≡ clause_marks d → Subsumes c d → result ≡ true }
 {
+    if p.all | q.all != q.all {
+        return false;
+    }
     p.words.len() <= q.words.len() && are_within_some(p.words.as_slice(), q.words.as_slice())
 }

@@ -1,6 +1,7 @@
-use Rattle.std.proofs.Common.{◌≡◌, ◌≤◌, ◌↔◌, Bool, IsTrue, List, ℕ, length, All, Any, ap, subst, ◌∙◌, arith}
+use Rattle.std.proofs.Common.{◌≡◌, ◌≤◌, ◌↔◌, Bool, IsTrue, List, ℕ, length, All, Any, sym, ap, subst, ◌∙◌, arith}
 use Rattle.cover_marks.specs.Cover.{IsWithin, MayCover}
 use Rattle.cover_marks.proofs.Covering.{marks_tell}
+use Rattle.cover_marks.proofs.Unions.{covered_union}
 use Rattle.cover_marks.proofs.cover.may_subsume.Goals as goal
 
 -- words that are no more than others
@@ -22,3 +23,15 @@ returns-then-len-clause-exact c = exact c
 
 pub returns-then-len-clause-law : goal.returns-then-len-clause-law
 returns-then-len-clause-law c = λ p q is it h. (exact c).1 (marks_tell c.args.p.now c.args.q.now p q is it h)
+
+-- the marks together tell already
+apart : (c : goal.Then-p-q) → MayCover c.args.p.now c.args.q.now → ⊥
+apart c covers =
+    c.if-p-q.true (covered_union c.p.inside.words c.q.inside.words c.p.inside.all c.q.inside.all c.p.invariant c.q.invariant
+    (subst (λ w. MayCover w c.q.inside.words) (sym c.p.view_is) (subst (MayCover c.args.p.now) (sym c.q.view_is) covers)))
+
+pub returns-then-p-q-clause-exact : goal.returns-then-p-q-clause-exact
+returns-then-p-q-clause-exact c = (λ h. cc, λ covers. absurd (apart c covers))
+
+pub returns-then-p-q-clause-law : goal.returns-then-p-q-clause-law
+returns-then-p-q-clause-law c = λ p q is it h. absurd (apart c (marks_tell c.args.p.now c.args.q.now p q is it h))
